@@ -1,0 +1,6 @@
+pub mod Letters
+pub mod Hash
+pub mod Same
+pub mod Probe
+pub mod Placed
+pub mod Table

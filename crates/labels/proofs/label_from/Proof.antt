@@ -1,0 +1,60 @@
+-- The array so far is the first bytes, filled up with zeros.
+use Prim.Native.Nat.{ℕ, suc, _+_, _-_, _<_, _≤_, _%_}
+use mathlib.Core.Path.{_≡_, refl, ap, sym, _∙_}
+use native.Mathlib.Omega.{arith}
+use borrow.Author.Needs.{needs}
+use lib.ListN.{length, drop, take, getD}
+use mathlib.Core.Bool.{true, false}
+use lib.Seq.{take-nil}
+use Rattle.lists.specs.Lists.{pad}
+use Rattle.labels.proofs.Same.{copy-next, copy-end}
+use Rattle.labels.proofs.label_from.Statement.{statement}
+use Rattle.labels.proofs.label_from.Tie as tie
+use Rattle.labels.proofs.label_from.Reads as reads
+use Rattle.labels.proofs.label_from.Lts as lts
+
+abbrev Inv-loop : tie.InvT-loop
+Inv-loop bytes text₀ n i₀ text i = (i ≤ length bytes) × (text ≡ pad 0 24 (take i bytes))
+
+abbrev μ-loop : tie.MeasureT-loop
+μ-loop bytes text₀ n i₀ text i = length bytes - i
+
+loop-holds : tie.Need-loop-holds Inv-loop μ-loop
+unfolding pad
+loop-holds c = (omega arith, refl)
+
+shared-slice-read-text : tie.Need-shared-slice-read-text Inv-loop μ-loop
+shared-slice-read-text c = search needs
+
+array-write-text : tie.Need-array-write-text Inv-loop μ-loop
+array-write-text c = search needs
+
+add-i : tie.Need-add-i Inv-loop μ-loop
+add-i c = search needs
+
+loop-less : tie.Need-loop-less Inv-loop μ-loop
+loop-less c = search needs
+
+loop-again : tie.Need-loop-again Inv-loop μ-loop
+loop-again c = (search needs, search copy-next)
+
+cast-t11 : tie.Need-cast-t11 Inv-loop μ-loop
+cast-t11 c = search needs
+
+returns : tie.Need-returns Inv-loop μ-loop
+returns c = search copy-end
+
+pub label-from-spec : {M : Type 1} → statement M
+label-from-spec =
+    tie.close
+    (tie.spec
+    Inv-loop
+    μ-loop
+    loop-holds
+    shared-slice-read-text
+    array-write-text
+    add-i
+    loop-less
+    loop-again
+    cast-t11
+    returns)

@@ -1,0 +1,260 @@
+// Labels and the table that numbers them: up to 64 labels in order of first appearance, found through 128 places by
+// their FNV-1a hash.
+//
+// `fnv1a` hashes bytes. `label_from` makes a label of a byte string, `label_byte` says which bytes a label has.
+// `no_labels` is the empty table, `find_label` looks a label up, `add_label` adds one at the place that the search found.
+ghost use mathlib.Core.Path.{_≡_};
+ghost use mathlib.Core.List.{[]};
+ghost use Prim.Native.Nat.{ℕ, _+_, _*_, _%_, _<_, _≤_};
+ghost use lib.ListN.{length};
+ghost use Rattle.lists.specs.Tells.{Tells};
+ghost use Rattle.labels.specs.Fnv.{fnvOf, fnvStep};
+ghost use Rattle.labels.specs.Label.{letter?, labelOf, noLabel, byteSound, sound?};
+ghost use Rattle.labels.specs.Table.{FindsLabel, putLabel, firstPlace, tableOf, Readable};
+
+// A label's number, from 1 in the order of first appearance; 0 for none.
+pub struct LabelNo(pub u8);
+
+// The first `length` bytes are the label's, the others 0. Length 0: no label.
+pub struct Label {
+    pub bytes: [u8; 24],
+    pub length: u8,
+}
+
+// The first `count` labels are the table's. A place holds the number of the label that stands there, 0 where it is empty.
+pub struct LabelTable {
+    pub labels: [Label; 64],
+    pub places: [LabelNo; 128],
+    pub count: usize,
+}
+
+// What a search for a label finds: its number, or the empty place where it would go.
+pub enum Slot {
+    Seen(LabelNo),
+    Free(usize),
+    Full,
+}
+
+// The product with FNV's prime, modulo 2^32.
+pub fn times_prime(h: u32) -> u32
+    ensures { λ r. ⌜ r ≡ h * 16777619 % 4294967296 ⌝ }
+{
+    ((h as u64) * 16777619 % 4294967296) as u32
+}
+
+// The hash after one byte more.
+pub fn fnv_step(h: u32, b: u8) -> u32
+    ensures { λ r. ⌜ r ≡ fnvStep h b ⌝ }
+{
+    times_prime((b as u32) ^ h)
+}
+
+// The 32-bit FNV-1a hash of the bytes.
+pub fn fnv1a(bytes: &[u8]) -> u32
+    ensures { λ r. ⌜ r ≡ fnvOf (now (bytes .entry)) ⌝ }
+{
+    let mut h: u32 = 2166136261;
+    let mut i: usize = 0;
+    while i < bytes.len() {
+        h = fnv_step(h, bytes[i]);
+        i += 1;
+    }
+    h
+}
+
+// Whether a label may have the byte: A to Z, 0 to 9, underscore.
+pub fn label_byte(b: u8) -> bool
+    ensures { λ r. ⌜ r ≡ letter? b ⌝ }
+{
+    if b < 48 {
+        return false;
+    }
+    if b <= 57 {
+        return true;
+    }
+    if b < 65 {
+        return false;
+    }
+    if b <= 90 {
+        return true;
+    }
+    b == 95
+}
+
+// The label that stands for a missing one.
+pub fn no_label() -> Label
+    ensures { λ x. ⌜ x ≡ noLabel ⌝ }
+{
+    Label {
+        bytes: [0; 24],
+        length: 0,
+    }
+}
+
+// The label with these bytes.
+pub fn label_from(bytes: &[u8]) -> Label
+    requires { ⌜ length (now bytes) ≤ 24 ⌝ }
+    ensures { λ x. ⌜ x ≡ labelOf (now (bytes .entry)) ⌝ }
+{
+    let mut text = [0u8; 24];
+    let n = bytes.len();
+    let mut i: usize = 0;
+    while i < n {
+        text[i] = bytes[i];
+        i += 1;
+    }
+    Label {
+        bytes: text,
+        length: n as u8,
+    }
+}
+
+// Whether a byte is right inside a label, or behind its end.
+fn byte_sound(inside: bool, b: u8) -> bool
+    ensures { λ r. ⌜ r ≡ byteSound inside b ⌝ }
+{
+    if inside {
+        return label_byte(b);
+    }
+    b == 0
+}
+
+// Whether a label handed in has the bytes of a label to its length, and zeros behind.
+pub fn is_sound(x: Label) -> bool
+    ensures { λ r. ⌜ (r ≡ sound? x) × (length (x .bytes) ≡ 24) ⌝ }
+{
+    if 24 < x.length {
+        return false;
+    }
+    let n = x.length as usize;
+    let mut i: usize = 0;
+    while i < 24 {
+        let b = x.bytes[i];
+        if !byte_sound(i < n, b) {
+            return false;
+        }
+        i += 1;
+    }
+    true
+}
+
+// Whether two labels are the same.
+pub fn same_label(a: Label, b: Label) -> bool
+    ensures { λ r. ⌜ Tells r (a ≡ b) ⌝ }
+{
+    if a.length != b.length {
+        return false;
+    }
+    let mut i: usize = 0;
+    while i < 24 {
+        if a.bytes[i] != b.bytes[i] {
+            return false;
+        }
+        i += 1;
+    }
+    true
+}
+
+// The table of no labels.
+pub fn no_labels() -> LabelTable
+    ensures { λ t. ⌜ t ≡ tableOf [] ⌝ }
+{
+    let blank = no_label();
+    LabelTable {
+        labels: [blank; 64],
+        places: [LabelNo(0); 128],
+        count: 0,
+    }
+}
+
+// A label's first place: its hash modulo 128.
+pub fn first_place(x: Label) -> usize
+    requires { ⌜ x .length ≤ 24 ⌝ }
+    ensures { λ p. ⌜ p ≡ firstPlace x ⌝ }
+{
+    let bytes = x.bytes;
+    let n = x.length as usize;
+    (fnv1a(&bytes[..n]) % 128) as usize
+}
+
+// The label's number if it is among the table's labels, otherwise the empty place where it would go.
+pub fn find_label(t: LabelTable, x: Label) -> Slot
+    requires { ⌜ (x .length ≤ 24) × Readable t ⌝ }
+    ensures { λ s. ⌜ FindsLabel t x s ⌝ }
+{
+    let mut p = first_place(x);
+    let mut left: usize = 128;
+    while 0 < left {
+        let n = t.places[p];
+        if n.0 == 0 {
+            return Slot::Free(p);
+        }
+        let m = (n.0 - 1) as usize;
+        let y = t.labels[m];
+        if same_label(y, x) {
+            return Slot::Seen(n);
+        }
+        p = (p + 1) % 128;
+        left -= 1;
+    }
+    Slot::Full
+}
+
+// The table with one label more, at an empty place that a search found.
+pub fn add_label(t: LabelTable, x: Label, p: usize) -> LabelTable
+    requires { ⌜ (t .count < 64) × (p < 128) ⌝ }
+    ensures { λ q. ⌜ q ≡ putLabel t x p ⌝ }
+{
+    let mut q = t;
+    let m = q.count;
+    q.labels[m] = x;
+    let n = (m + 1) as u8;
+    q.places[p] = LabelNo(n);
+    q.count = m + 1;
+    q
+}
+
+fn same_label_list(a: [Label; 64], b: [Label; 64]) -> bool
+    ensures { λ r. ⌜ Tells r (a ≡ b) ⌝ }
+{
+    let mut i: usize = 0;
+    while i < 64 {
+        let x = a[i];
+        let y = b[i];
+        if !same_label(x, y) {
+            return false;
+        }
+        i += 1;
+    }
+    true
+}
+
+fn same_places(a: [LabelNo; 128], b: [LabelNo; 128]) -> bool
+    ensures { λ r. ⌜ Tells r (a ≡ b) ⌝ }
+{
+    let mut i: usize = 0;
+    while i < 128 {
+        if a[i].0 != b[i].0 {
+            return false;
+        }
+        i += 1;
+    }
+    true
+}
+
+// Whether two tables are the same, unused places too.
+pub fn same_table(a: LabelTable, b: LabelTable) -> bool
+    ensures { λ r. ⌜ Tells r (a ≡ b) ⌝ }
+{
+    if a.count != b.count {
+        return false;
+    }
+    let x = a.labels;
+    let y = b.labels;
+    if !same_label_list(x, y) {
+        return false;
+    }
+    let v = a.places;
+    let w = b.places;
+    same_places(v, w)
+}

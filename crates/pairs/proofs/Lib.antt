@@ -1,0 +1,9 @@
+pub mod Grid
+pub mod Cross
+pub mod Pairs
+pub mod Clear
+pub mod Match
+pub mod Starts
+pub mod Refreshed
+pub mod Word
+pub mod Accepted

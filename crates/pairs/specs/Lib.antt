@@ -1,0 +1,4 @@
+pub mod Grid
+pub mod Pairs
+pub mod Word
+pub mod Start

@@ -20,7 +20,7 @@ use Rattle.labels.specs.declared.LabelTable.{LabelTable}
 use Rattle.labels.specs.declared.Slot.{Slot}
 use Rattle.labels.specs.declared.Slot.the-variants.{Seen, Free, Full}
 use Rattle.labels.specs.Label.{noLabel, absent, labelNo, sameLabel}
-use Rattle.labels.specs.Table.{indexOf, numberOf, withLabel, labelAt, Distinct, firstPlace, placeAt, freeFrom, freePlace, insert, insertAll, placesOf, tableOf, probe, lookup, slotOf, Readable, FindsLabel, putLabel}
+use Rattle.labels.specs.Table.{indexOf, numberOf, withLabel, labelAt, Distinct, firstPlace, placeAt, freeFrom, freePlace, insert, insertAll, placesOf, tableOf, probe, lookup, slotOf, Readable, FindsLabel, AddsLabel, putLabel}
 use Rattle.labels.proofs.Same.{label-eq, label-refl}
 use Rattle.labels.proofs.Probe.{first-low, probe-first}
 use Rattle.labels.proofs.Placed.{Placed, Stops, upd, upd-here, upd-else, none-placed, lookup-seen, lookup-free, insert-placed}
@@ -73,7 +73,7 @@ index-has ls x h = let z : suc (indexOf ls x) - 1 ≡ indexOf ls x = omega arith
 pub index-none : (ls : List Label) (x : Label) → length ls ≤ indexOf ls x → (i : ℕ) → (i ≡ 0 → ⊥) → i ≤ length ls → labelAt ls i ≡ x → ⊥
 index-none ls x h i m k e = index-not ls x h (i - 1) (omega (arith, m)) e
 
--- labels put one after another, each at the firstPlace empty place from its own
+-- labels put one after another, each at the first empty place from its own
 module _ (lb : ℕ → Label) where
   all-placed : (n : ℕ) (xs : List Label) (ps : List LabelNo) → Placed firstPlace n lb (placeAt ps) → length ps ≡ 128 → n + length xs ≤ 64
       → ((i j : ℕ) → (i ≡ 0 → ⊥) → i ≤ n + length xs → (j ≡ 0 → ⊥) → j ≤ n + length xs → lb i ≡ lb j → i ≡ j)
@@ -194,6 +194,23 @@ number-low ls x =
     (λ f. simp (e, f, length-append) (omega (arith, index-most ls x)))
     (λ f. simp (e, f) (omega (arith, leb-false (length ls) (indexOf ls x) f))))
 
+-- the labels before a line keep their numbers, and the number that a run gets names the line's label
+pub label-kept : (ls : List Label) (x : Label) (k : ℕ) → (k ≡ 0 → ⊥) → k ≤ length ls → labelAt (withLabel ls x) k ≡ labelAt ls k
+label-kept ls x k m h =
+    either-eq (x .length) 0
+    (λ e. ap (λ (l : List Label). labelAt l k) (with-none ls x e))
+    (λ n. either-lt (indexOf ls x) (length ls)
+    (λ j. ap (λ (l : List Label). labelAt l k) (with-few ls x j n))
+    (λ j. ap (λ (l : List Label). labelAt l k) (with-new ls x j n) ∙ List·getD-append ls (x ∷ []) absent (k - 1) (omega (arith, m))))
+
+pub number-names : (ls : List Label) (x : Label) → (x .length ≡ 0 → ⊥) → labelAt (withLabel ls x) (numberOf ls x) ≡ x
+unfolding numberOf
+number-names ls x n =
+    simp (ne-eqb _ _ n)
+    (either-lt (indexOf ls x) (length ls)
+    (λ j. ap (λ (l : List Label). labelAt l (suc (indexOf ls x))) (with-few ls x j n) ∙ index-has ls x j)
+    (λ j. ap (λ (l : List Label). labelAt l (suc (indexOf ls x))) (with-new ls x j n) ∙ getD-at ls x [] absent (suc (indexOf ls x) - 1) (omega (arith, index-most ls x))))
+
 -- ── what a search in the table finds ──
 module _ (ls : List Label) (distinct : Distinct ls) (few : length ls ≤ 64) where
   pub lookup-table : (x : Label) → lookup (tableOf ls) x ≡ slotOf ls x
@@ -218,6 +235,9 @@ put-table ls x few =
     let b : set (placesOf ls) (freePlace (placesOf ls) x) (labelNo (length ls + 1)) ≡ placesOf (ls ++ (x ∷ [])) = sym (insert-snoc (replicate 128 (labelNo 0)) 1 ls x) in
     let c : length ls + 1 ≡ length (ls ++ (x ∷ [])) = simp length-append in
     λ j. record { labels = a j; places = b j; count = c j }
+
+pub adds : (t : LabelTable) (x : Label) (p : ℕ) (q : LabelTable) → q ≡ putLabel t x p → AddsLabel t x p q
+adds t x p q e = record { answer = e; meaning = λ ls h f g. e ∙ ((λ i. putLabel (f i) x (g i)) ∙ put-table ls x h) }
 
 pub none-distinct : Distinct []
 unfolding Distinct

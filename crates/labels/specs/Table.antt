@@ -1,5 +1,5 @@
 -- The label table: the labels in order of first appearance, and the 128 places through which they are found.
-use Prim.Native.Nat.{ℕ, zero, suc, _+_, _-_, _%_, _≤_}
+use Prim.Native.Nat.{ℕ, zero, suc, _+_, _-_, _%_, _<_, _≤_}
 use mathlib.Core.Path.{_≡_}
 use mathlib.Core.List.{List, [], _∷_, _++_}
 use mathlib.Core.Bool.{Bool, true, false, cond}
@@ -37,6 +37,7 @@ unfoldable pub Distinct : List Label → Type 0
 Distinct ls = (i j : ℕ) → (i ≡ 0 → ⊥) → i ≤ length ls → (j ≡ 0 → ⊥) → j ≤ length ls → labelAt ls i ≡ labelAt ls j → i ≡ j
 
 -- ── the 128 places ──
+-- "Labels are found through 128 places."
 -- "A label's first place is the 32-bit FNV-1a hash of its bytes modulo 128"
 unfoldable pub firstPlace : Label → ℕ
 firstPlace x = fnvOf (text x) % 128
@@ -100,3 +101,8 @@ putLabel t x p =
       places = set (t .places) p (labelNo (t .count + 1));
       count = t .count + 1;
     }
+
+-- what adding a label answers, in any table; and at the place that a search found, in the table of a list
+pub record AddsLabel (t : LabelTable) (x : Label) (p : ℕ) (q : LabelTable) : Type 0 where
+  pub answer : q ≡ putLabel t x p
+  pub meaning : (ls : List Label) → length ls < 64 → t ≡ tableOf ls → p ≡ freePlace (placesOf ls) x → q ≡ tableOf (ls ++ (x ∷ []))

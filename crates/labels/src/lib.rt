@@ -10,7 +10,7 @@ ghost use lib.ListN.{length};
 ghost use Rattle.lists.specs.Tells.{Tells};
 ghost use Rattle.labels.specs.Fnv.{fnvOf, fnvStep};
 ghost use Rattle.labels.specs.Label.{letter?, labelOf, noLabel, byteSound, sound?};
-ghost use Rattle.labels.specs.Table.{FindsLabel, putLabel, firstPlace, tableOf, Readable};
+ghost use Rattle.labels.specs.Table.{FindsLabel, AddsLabel, firstPlace, tableOf, Readable};
 
 // A label's number, from 1 in the order of first appearance; 0 for none.
 pub struct LabelNo(pub u8);
@@ -138,8 +138,8 @@ pub fn is_sound(x: Label) -> bool
     true
 }
 
-// Whether two labels are the same.
-pub fn same_label(a: Label, b: Label) -> bool
+// Whether two values hold the same bytes. This is no "same" of the logic: two missing labels are equal values.
+pub fn equal_labels(a: Label, b: Label) -> bool
     ensures { λ r. ⌜ Tells r (a ≡ b) ⌝ }
 {
     if a.length != b.length {
@@ -191,7 +191,7 @@ pub fn find_label(t: LabelTable, x: Label) -> Slot
         }
         let m = (n.0 - 1) as usize;
         let y = t.labels[m];
-        if same_label(y, x) {
+        if equal_labels(y, x) {
             return Slot::Seen(n);
         }
         p = (p + 1) % 128;
@@ -203,7 +203,7 @@ pub fn find_label(t: LabelTable, x: Label) -> Slot
 // The table with one label more, at an empty place that a search found.
 pub fn add_label(t: LabelTable, x: Label, p: usize) -> LabelTable
     requires { ⌜ (t .count < 64) × (p < 128) ⌝ }
-    ensures { λ q. ⌜ q ≡ putLabel t x p ⌝ }
+    ensures { λ q. ⌜ AddsLabel t x p q ⌝ }
 {
     let mut q = t;
     let m = q.count;
@@ -214,14 +214,14 @@ pub fn add_label(t: LabelTable, x: Label, p: usize) -> LabelTable
     q
 }
 
-fn same_label_list(a: [Label; 64], b: [Label; 64]) -> bool
+fn equal_label_lists(a: [Label; 64], b: [Label; 64]) -> bool
     ensures { λ r. ⌜ Tells r (a ≡ b) ⌝ }
 {
     let mut i: usize = 0;
     while i < 64 {
         let x = a[i];
         let y = b[i];
-        if !same_label(x, y) {
+        if !equal_labels(x, y) {
             return false;
         }
         i += 1;
@@ -251,7 +251,7 @@ pub fn same_table(a: LabelTable, b: LabelTable) -> bool
     }
     let x = a.labels;
     let y = b.labels;
-    if !same_label_list(x, y) {
+    if !equal_label_lists(x, y) {
         return false;
     }
     let v = a.places;

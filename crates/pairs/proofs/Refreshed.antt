@@ -1,18 +1,22 @@
 -- After an accepted line the refreshed bytes are the new record's: only the run of the line changes, so only its row and column do.
-use Prim.Native.Nat.{ℕ, zero, suc, _+_, _<_, _≤_}
+use Prim.Native.Nat.{ℕ, zero, suc, _+_, _*_, _<_, _≤_}
 use mathlib.Core.Path.{_≡_, refl, ap, sym, _∙_}
 use mathlib.Core.Bool.{true, _&&_, cond}
 use mathlib.Core.List.{List, [], _∷_, _++_}
 use native.Mathlib.Omega.{arith}
-use lib.ListN.{length, getD, length-append, List·getD-append, List·getD-eq-default}
+use lib.ListN.{length, getD, set, drop, length-append, List·getD-append, List·getD-eq-default}
 use lib.Dec.{eqb, ltb}
+use lib.Seq.{drop-set-lt}
 use borrow.Author.Tests.{lt-ltb, le-ltb}
 use Rattle.lists.proofs.Cases.{either-lt, either-bool, no-both}
 use Rattle.labels.specs.declared.Label.{Label}
 use Rattle.trace.specs.declared.Run.{Run}
 use Rattle.trace.specs.Trace.{Trace, next, noRun, begun?, placeOf, close, begin, end, apply, runOf}
 use Rattle.pairs.specs.Grid.{cross}
+use Rattle.trace.specs.declared.RunTable.{RunTable}
+use Rattle.trace.specs.Steps.{held}
 use Rattle.pairs.specs.Pairs.{pairSet, pairByte, workOf}
+use Rattle.pairs.specs.Refresh.{Beside, Refreshes}
 use Rattle.labels.specs.Label.{labelOf}
 use Rattle.lines.specs.Event.{Event, begins, ends}
 use Rattle.trace.proofs.Taken.{Begun, Ended, event-taken}
@@ -20,11 +24,6 @@ use Rattle.trace.proofs.Closed.{RunOf, begun-run, close-long}
 use Rattle.pairs.proofs.Cross.{cross-right}
 
 -- ── two lists of runs that differ at one place at most ──
--- at each other place both have a run or neither, and it is the same
-pub record Beside (z : ℕ) (rs qs : List Run) : Type 0 where
-  pub has : (k : ℕ) → (k ≡ z → ⊥) → ltb k (length rs) ≡ ltb k (length qs)
-  pub run : (k : ℕ) → (k ≡ z → ⊥) → getD rs k noRun ≡ getD qs k noRun
-
 -- the row and the column of that place bring the bytes up to date
 pub refreshed : (z : ℕ) (rs qs : List Run) (w : List ℕ) → z < 128 → Beside z rs qs → cross (pairByte qs) z 128 (workOf rs w) ≡ workOf qs w
 unfolding pairByte
@@ -88,3 +87,19 @@ refreshed-line t u w few =
     event-taken (λ e. cross (pairByte (u .runs)) (runOf t e) 128 (workOf (t .runs) w) ≡ workOf (u .runs) w) t u
     (λ i l b. rw (b .is) (refreshed-begin t i (labelOf l) w (b .room)))
     (λ i b. rw (b .is) (refreshed-end t i w (b .old) few))
+
+-- ── what a refresh promises ──
+cross-rest : (f : ℕ → ℕ → ℕ) (z n : ℕ) (w : List ℕ) → z < 128 → n ≤ 128 → drop 16384 (cross f z n w) ≡ drop 16384 w
+unfolding cross
+cross-rest f z zero w h k = refl
+cross-rest f z (suc n) w h k =
+    drop-set-lt 16384 (set (cross f z n w) (128 * n + z) (f n z)) (128 * z + n) (f z n) (omega arith)
+    ∙ (drop-set-lt 16384 (cross f z n w) (128 * n + z) (f n z) (omega arith) ∙ cross-rest f z n w h (omega arith))
+
+pub refreshes : (t : RunTable) (z : ℕ) (w v : List ℕ) → z < 128 → v ≡ cross (pairByte (held t)) z 128 w → Refreshes t z w v
+refreshes t z w v h e =
+    record {
+      answer = e;
+      meaning = λ rs u b f. e ∙ (ap (cross (pairByte (held t)) z 128) f ∙ refreshed z rs (held t) u h b);
+      rest = ap (drop 16384) e ∙ cross-rest (pairByte (held t)) z 128 w h (omega arith);
+    }

@@ -8,7 +8,7 @@ unfoldable pub tabFrom : ℕ → ℕ → (ℕ → ℕ) → List ℕ
 tabFrom k zero f = []
 tabFrom k (suc n) f = f k ∷ tabFrom (k + 1) n f
 
--- "its first 16,384 bytes are pair bytes: 128 × first run + second run"
+-- "The work area is a lent buffer; its first 16,384 bytes are pair bytes: 128 × first run + second run"
 unfoldable pub grid : (ℕ → ℕ → ℕ) → List ℕ
 grid f = tabFrom 0 16384 (λ (k : ℕ). f (k / 128) (k % 128))
 

@@ -1,4 +1,5 @@
 pub mod Grid
 pub mod Pairs
 pub mod Word
+pub mod Refresh
 pub mod Start

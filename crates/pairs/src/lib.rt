@@ -1,6 +1,6 @@
 // Pair bytes in a lent work area: how each two runs of a record stand to each other.
 //
-// `start_record` starts a record in a lent work area. `pair_byte` gives the byte of two runs, `byte_at` the byte of two places of a table. `clear_pairs`, `refresh_run` and
+// `start_record` starts a record in a lent work area. `pair_byte` gives the byte of two runs. `clear_pairs`, `refresh_run` and
 // `pairs_match` clear the bytes, bring one run's row and column up to date after its begin or end line, and compare the whole
 // area with a record's runs.
 ghost use mathlib.Core.Path.{_≡_};
@@ -10,10 +10,12 @@ ghost use lib.ListN.{length};
 ghost use Rattle.lists.specs.Tells.{Tells};
 ghost use Rattle.pairs.specs.Grid.{cross};
 ghost use Rattle.pairs.specs.Pairs.{pairSet, cellByte, pairByte, workOf, ZerosIn, LaterIn, RowIn};
+ghost use Rattle.pairs.specs.Refresh.{Refreshes};
 ghost use Rattle.pairs.specs.Start.{startOf};
 ghost use Rattle.trace.specs.Steps.{held};
 use trace::Record;
 use trace::Run;
+use trace::RunNo;
 use trace::RunTable;
 
 // The runs of a table, and the bytes of a row.
@@ -62,16 +64,6 @@ fn cell_byte(n: usize, a: usize, b: usize, x: Run, y: Run) -> u8
     0
 }
 
-// The byte of the runs at two places of a table.
-pub fn byte_at(t: RunTable, a: usize, b: usize) -> u8
-    requires { ⌜ (a < 128) × (b < 128) × (t .count ≤ 128) ⌝ }
-    ensures { λ r. ⌜ r ≡ pairByte (held t) a b ⌝ }
-{
-    let x = t.list[a];
-    let y = t.list[b];
-    cell_byte(t.count, a, b, x, y)
-}
-
 // Clears the pair bytes: those of no runs.
 pub fn clear_pairs(work: &mut [u8])
     requires { ⌜ 16384 ≤ length (now work) ⌝ }
@@ -84,8 +76,8 @@ pub fn clear_pairs(work: &mut [u8])
     }
 }
 
-// Rewrites the row and the column of run `z` from the table.
-pub fn refresh_run(t: RunTable, z: usize, work: &mut [u8])
+// Rewrites row `z` and column `z` from the table.
+fn store_cross(t: RunTable, z: usize, work: &mut [u8])
     requires { ⌜ (16384 ≤ length (now work)) × (z < 128) × (t .count ≤ 128) ⌝ }
     ensures { λ _. ⌜ now (work .exit) ≡ cross (pairByte (held t)) z 128 (now (work .entry)) ⌝ }
 {
@@ -100,6 +92,15 @@ pub fn refresh_run(t: RunTable, z: usize, work: &mut [u8])
         work[MAX_RUNS * z + k] = b;
         k += 1;
     }
+}
+
+// Brings the bytes of run `z` up to date after its begin or end line: its row and its column.
+pub fn refresh_run(t: RunTable, z: RunNo, work: &mut [u8])
+    requires { ⌜ (16384 ≤ length (now work)) × (z .0 < 128) × (t .count ≤ 128) ⌝ }
+    ensures { λ _. ⌜ Refreshes t (z .0) (now (work .entry)) (now (work .exit)) ⌝ }
+{
+    let at = z.0 as usize;
+    store_cross(t, at, work);
 }
 
 // Whether the bytes from `from` to below `to` are all 0. It reads them all, so that many are compared at once.

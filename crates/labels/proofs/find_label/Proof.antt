@@ -13,7 +13,7 @@ use Rattle.labels.proofs.find_label.Tie as tie
 use Rattle.labels.proofs.find_label.Reads as reads
 use Rattle.labels.proofs.find_label.Lts as lts
 use Rattle.labels.proofs.first_place.Reads as first-place-reads
-use Rattle.labels.proofs.same_label.Reads as same-label-reads
+use Rattle.labels.proofs.equal_labels.Reads as equal-labels-reads
 
 abbrev Inv-loop : tie.InvT-loop
 Inv-loop x t p₀ left₀ p left = (p < 128) × (left ≤ 128) × (lookup t x ≡ probe (placeAt (t .places)) (labelAt (t .labels)) x p left)
@@ -53,8 +53,8 @@ element-copy-out-y c =
     let m : (placeAt (l .before .before .args .t1 .places) (l .loop .p) ≡ 0 → ⊥) = search needs in
     omega (arith, m, l .before .before .pre .1 (l .loop .p))
 
-same-label-requires : tie.Need-same-label-requires Inv-loop μ-loop
-same-label-requires c κs = search needs
+equal-labels-requires : tie.Need-equal-labels-requires Inv-loop μ-loop
+equal-labels-requires c κs = search needs
 
 returns-2 : tie.Need-returns-2 Inv-loop μ-loop
 returns-2 c = finds _ _ _ (search turn-seen)
@@ -88,7 +88,7 @@ find-label-spec =
     cast-m
     mul-y
     element-copy-out-y
-    same-label-requires
+    equal-labels-requires
     returns-2
     add-p
     sub-left

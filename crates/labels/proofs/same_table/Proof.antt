@@ -6,26 +6,26 @@ use Rattle.labels.proofs.same_table.Statement.{statement}
 use Rattle.labels.proofs.same_table.Tie as tie
 use Rattle.labels.proofs.same_table.Reads as reads
 use Rattle.labels.proofs.same_table.Lts as lts
-use Rattle.labels.proofs.same_label_list.Reads as same-label-list-reads
+use Rattle.labels.proofs.equal_label_lists.Reads as equal-label-lists-reads
 use Rattle.labels.proofs.same_places.Reads as same-places-reads
 
 returns : tie.Need-returns
 returns c = count-differs _ _ (c .if1 .taken)
 
-same-label-list-requires : tie.Need-same-label-list-requires
-same-label-list-requires c κs = search needs
+equal-label-lists-requires : tie.Need-equal-label-lists-requires
+equal-label-lists-requires c κs = search needs
 
 returns-2 : tie.Need-returns-2
-returns-2 c = labels-differ _ _ (c .before .same-label-list .ensures .no (not-true _ (c .if2 .taken)))
+returns-2 c = labels-differ _ _ (c .before .equal-label-lists .ensures .no (not-true _ (c .if2 .taken)))
 
 same-places-requires : tie.Need-same-places-requires
 same-places-requires c κs = search needs
 
 returns-3 : tie.Need-returns-3
 returns-3 c =
-    let e = c .before .before .before .before .same-label-list .ensures .yes (not-false _ (c .before .before .before .if2 .left)) in
+    let e = c .before .before .before .before .equal-label-lists .ensures .yes (not-false _ (c .before .before .before .if2 .left)) in
     places-decide _ _ _ (search needs) e (c .same-places .ensures)
 
 pub same-table-spec : {M : Type 1} → statement M
 same-table-spec =
-    tie.close (tie.spec returns same-label-list-requires returns-2 same-places-requires returns-3)
+    tie.close (tie.spec returns equal-label-lists-requires returns-2 same-places-requires returns-3)

@@ -7,11 +7,11 @@ use borrow.Author.Tests.{not-true, not-false}
 use lib.ListN.{length, getD}
 use Rattle.lists.proofs.Lists.{unmapped, alike, differ, one-like}
 use Rattle.labels.specs.Label.{absent}
-use Rattle.labels.proofs.same_label_list.Statement.{statement}
-use Rattle.labels.proofs.same_label_list.Tie as tie
-use Rattle.labels.proofs.same_label_list.Reads as reads
-use Rattle.labels.proofs.same_label_list.Lts as lts
-use Rattle.labels.proofs.same_label.Reads as same-label-reads
+use Rattle.labels.proofs.equal_label_lists.Statement.{statement}
+use Rattle.labels.proofs.equal_label_lists.Tie as tie
+use Rattle.labels.proofs.equal_label_lists.Reads as reads
+use Rattle.labels.proofs.equal_label_lists.Lts as lts
+use Rattle.labels.proofs.equal_labels.Reads as equal-labels-reads
 
 abbrev Inv-loop : tie.InvT-loop
 Inv-loop a b i₀ i = (i ≤ 64) × ((j : ℕ) → j < i → getD a j absent ≡ getD b j absent)
@@ -34,13 +34,13 @@ mul-y c = search needs
 array-copy-out-y : tie.Need-array-copy-out-y Inv-loop μ-loop
 array-copy-out-y c = search needs
 
-same-label-requires : tie.Need-same-label-requires Inv-loop μ-loop
-same-label-requires c κs = search needs
+equal-labels-requires : tie.Need-equal-labels-requires Inv-loop μ-loop
+equal-labels-requires c κs = search needs
 
 returns : tie.Need-returns Inv-loop μ-loop
 returns c =
     let l = c .before .before .before .before .before in
-    differ absent _ _ 64 (l .loop .i) (λ e. c .before .same-label .ensures .no (not-true _ (c .if1 .taken)) e)
+    differ absent _ _ 64 (l .loop .i) (λ e. c .before .equal-labels .ensures .no (not-true _ (c .if1 .taken)) e)
 
 add-i : tie.Need-add-i Inv-loop μ-loop
 add-i c = search needs
@@ -51,7 +51,7 @@ loop-less c = search needs
 loop-again : tie.Need-loop-again Inv-loop μ-loop
 loop-again c =
     let l = c .before .before .before .before .before in
-    (search needs, one-like absent (l .before .args .t1) (l .before .args .t2) 64 (l .loop .i) (l .loop .inv .1) (c .before .same-label .ensures .yes (not-false _ (c .if1 .left))))
+    (search needs, one-like absent (l .before .args .t1) (l .before .args .t2) 64 (l .loop .i) (l .loop .inv .1) (c .before .equal-labels .ensures .yes (not-false _ (c .if1 .left))))
 
 returns-2 : tie.Need-returns-2 Inv-loop μ-loop
 returns-2 c =
@@ -60,8 +60,8 @@ returns-2 c =
     let q : length (a .t2) ≡ 64 = search unmapped in
     alike absent _ _ 64 p q (c .before .loop .i) (search needs) (c .before .loop .inv .1)
 
-pub same-label-list-spec : {M : Type 1} → statement M
-same-label-list-spec =
+pub equal-label-lists-spec : {M : Type 1} → statement M
+equal-label-lists-spec =
     tie.close
     (tie.spec
     Inv-loop
@@ -71,7 +71,7 @@ same-label-list-spec =
     array-copy-out-x
     mul-y
     array-copy-out-y
-    same-label-requires
+    equal-labels-requires
     returns
     add-i
     loop-less

@@ -7,10 +7,10 @@ use borrow.Author.Needs.{needs}
 use lib.ListN.{length, drop, take, getD}
 use Rattle.lists.proofs.Lists.{alike, differ, one-like}
 use Rattle.labels.proofs.Same.{length-differs, bytes-decide}
-use Rattle.labels.proofs.same_label.Statement.{statement}
-use Rattle.labels.proofs.same_label.Tie as tie
-use Rattle.labels.proofs.same_label.Reads as reads
-use Rattle.labels.proofs.same_label.Lts as lts
+use Rattle.labels.proofs.equal_labels.Statement.{statement}
+use Rattle.labels.proofs.equal_labels.Tie as tie
+use Rattle.labels.proofs.equal_labels.Reads as reads
+use Rattle.labels.proofs.equal_labels.Lts as lts
 
 abbrev Inv-loop : tie.InvT-loop
 Inv-loop a b i₀ i = (i ≤ 24) × ((j : ℕ) → j < i → getD (a .bytes) j 0 ≡ getD (b .bytes) j 0)
@@ -31,9 +31,7 @@ element-copy-out-if2-2 : tie.Need-element-copy-out-if2-2 Inv-loop μ-loop
 element-copy-out-if2-2 c = search needs
 
 returns-2 : tie.Need-returns-2 Inv-loop μ-loop
-returns-2 c =
-    let l = c .before .before .before .before in
-    bytes-decide _ _ _ (search needs) (differ 0 _ _ 24 (l .loop .i) (c .if2 .taken))
+returns-2 c = bytes-decide _ _ _ (search needs) (differ 0 _ _ 24 _ (c .if2 .taken))
 
 add-i : tie.Need-add-i Inv-loop μ-loop
 add-i c = search needs
@@ -53,8 +51,8 @@ returns-3 c =
     let a = l .before .before .args in
     bytes-decide _ _ _ (search needs) (alike 0 (a .t1 .bytes) (a .t2 .bytes) 24 (search needs) (search needs) (l .loop .i) (search needs) (l .loop .inv .1))
 
-pub same-label-spec : {M : Type 1} → statement M
-same-label-spec =
+pub equal-labels-spec : {M : Type 1} → statement M
+equal-labels-spec =
     tie.close
     (tie.spec
     Inv-loop

@@ -1,0 +1,11 @@
+pub mod Relation
+pub mod Tests
+pub mod Runs
+pub mod Pairs
+pub mod Entries
+pub mod Sets
+pub mod Single
+pub mod Witness
+pub mod Demand
+pub mod Computed
+pub mod Examples

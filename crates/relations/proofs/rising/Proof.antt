@@ -1,0 +1,20 @@
+-- The first step that does not rise decides.
+use native.Mathlib.Omega.{arith}
+use Rattle.lists.proofs.Tells.{tell-yes, tell-no}
+use Rattle.relations.proofs.rising.Statement.{statement}
+use Rattle.relations.proofs.rising.Tie as tie
+
+returns : tie.Need-returns
+returns c = tell-no (λ h. omega arith)
+
+returns-2 : tie.Need-returns-2
+returns-2 c = tell-no (λ h. omega arith)
+
+returns-3 : tie.Need-returns-3
+returns-3 c = tell-no (λ h. omega arith)
+
+returns-4 : tie.Need-returns-4
+returns-4 c = tell-yes (omega arith)
+
+pub rising-spec : {M : Type 1} → statement M
+rising-spec = tie.close (tie.spec returns returns-2 returns-3 returns-4)

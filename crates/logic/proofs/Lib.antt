@@ -1,0 +1,9 @@
+pub mod Decides
+pub mod Closed
+pub mod PairSays
+pub mod LabelSays
+pub mod Bytes
+pub mod Nodes
+pub mod Judged
+pub mod Lessons
+pub mod Examples

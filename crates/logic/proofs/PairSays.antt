@@ -1,0 +1,33 @@
+-- Pair bytes 5, 6 and 7 of an accepted log say before, overlaps and includes of two finished runs.
+use Prim.Native.Nat.{ℕ}
+use mathlib.Core.Path.{_≡_}
+use mathlib.Core.Logic.{_↔_}
+use mathlib.Core.List.{List}
+use lib.Dec.{eqb}
+use Rattle.lists.specs.Tells.{Tells}
+use Rattle.lists.proofs.Tells.{tell-by}
+use Rattle.trace.specs.Trace.{Trace, Accepted}
+use Rattle.pairs.specs.Pairs.{pairByte}
+use Rattle.relations.specs.Relation as Relation
+use Rattle.relations.specs.Runs.{FinishedRun, RelatesRuns}
+use Rattle.relations.proofs.Pairs.{pair-byte-noted}
+use Rattle.logic.specs.Satisfies.{Related}
+use Rattle.logic.proofs.Decides.{tell-eq}
+
+module _ (log : List ℕ) (t : Trace) (accepted : Accepted log t) (x y : ℕ) where
+  -- a byte that notes a relation tells it
+  noted-tells : (r : Relation.Relation) (n : ℕ) → (pairByte (t .runs) x y ≡ n) ↔ (FinishedRun t x × FinishedRun t y × RelatesRuns r t x y) → Tells (eqb (pairByte (t .runs) x y) n) (Related r t x y)
+  noted-tells r n f =
+      tell-by
+      (λ e. let h = f .0 e in record { first = h .0; second = h .1; relates = h .2 })
+      (λ h. f .1 (h .first, h .second, h .relates))
+      (tell-eq (pairByte (t .runs) x y) n)
+
+  pub byte-5 : Tells (eqb (pairByte (t .runs) x y) 5) (Related Relation.before t x y)
+  byte-5 = noted-tells Relation.before 5 (pair-byte-noted log t accepted x y .is-before)
+
+  pub byte-6 : Tells (eqb (pairByte (t .runs) x y) 6) (Related Relation.overlaps t x y)
+  byte-6 = noted-tells Relation.overlaps 6 (pair-byte-noted log t accepted x y .is-overlaps)
+
+  pub byte-7 : Tells (eqb (pairByte (t .runs) x y) 7) (Related Relation.includes t x y)
+  byte-7 = noted-tells Relation.includes 7 (pair-byte-noted log t accepted x y .is-includes)

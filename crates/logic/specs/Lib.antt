@@ -1,0 +1,4 @@
+pub mod Satisfies
+pub mod Model
+pub mod Shown
+pub mod Verdict

@@ -1,0 +1,59 @@
+-- First-order interval logic (document 000, section 3) over the lines read so far, which the trace t stands for.
+-- Nothing here depends on how a rule is stored.
+use Prim.Native.Nat.{ℕ}
+use mathlib.Core.Path.{_≡_}
+use mathlib.Core.Logic.{_≢_}
+use mathlib.Core.Bool.{cond}
+use mathlib.Core.List.{List}
+use lib.Dec.{eqb}
+use Rattle.labels.specs.Label.{text}
+use Rattle.labels.specs.Table.{labelAt}
+use Rattle.trace.specs.Trace.{Trace, runAt}
+use Rattle.relations.specs.Relation as Relation
+use Rattle.relations.specs.Runs.{FinishedRun, RelatesRuns}
+use Rattle.rules.specs.Formula.{Formula, both, neg, exists, has, before, overlaps, includes, same}
+
+-- "ρ is a mapping from the interval variables to a domain": the number of the run that each variable stands for
+abbrev pub Binding : Type 0
+Binding = ℕ → ℕ
+
+-- "ρ[A ↦ j], the mapping that is identical to ρ but returns the value j for the variable A"
+abbrev pub bind : Binding → ℕ → ℕ → Binding
+bind ρ v j w = cond (eqb v w) j (ρ w)
+
+-- "data(j) is the data value associated with the interval": run j of t has a label, and its bytes are l.
+-- A run without a label (number 0) has none: "a missing label matches nothing, not even itself".
+pub record HasLabel (t : Trace) (j : ℕ) (l : List ℕ) : Type 0 where
+  pub labelled : runAt t j .label .0 ≢ 0
+  pub bytes : text (labelAt (t .labels) (runAt t j .label .0)) ≡ l
+
+-- runs j and k of t are finished, and start and finish give the relation r
+pub record Related (r : Relation.Relation) (t : Trace) (j k : ℕ) : Type 0 where
+  pub first : FinishedRun t j
+  pub second : FinishedRun t k
+  pub relates : RelatesRuns r t j k
+
+-- "some label belongs to both"
+pub record SameLabel (t : Trace) (j k : ℕ) : Type 0 where
+  pub label : List ℕ
+  pub first : HasLabel t j label
+  pub second : HasLabel t k label
+
+-- (ρ, σ) ⊨ φ, in the order of 000:
+unfoldable pub Satisfies : Trace → Binding → Formula → Type 0
+-- (φ ∧ ψ) if φ and ψ
+Satisfies t ρ (both f g) = Satisfies t ρ f × Satisfies t ρ g
+-- ¬φ if not φ
+Satisfies t ρ (neg f) = Satisfies t ρ f → ⊥
+-- A(d) if ρ(A) = j and data(j) = d
+Satisfies t ρ (has v l) = HasLabel t (ρ v) l
+-- (A < B) if finish(j) < start(k)
+Satisfies t ρ (before v w) = Related Relation.before t (ρ v) (ρ w)
+-- (A o B) if start(j) < start(k) < finish(j) < finish(k)
+Satisfies t ρ (overlaps v w) = Related Relation.overlaps t (ρ v) (ρ w)
+-- (A i B) if start(j) < start(k) < finish(k) < finish(j)
+Satisfies t ρ (includes v w) = Related Relation.includes t (ρ v) (ρ w)
+-- ∃A φ if there are begin(j) and end(j) among the lines with φ under ρ[A ↦ j]
+Satisfies t ρ (exists v f) = (j : ℕ) × FinishedRun t j × Satisfies t (bind ρ v j) f
+-- same(A, B): some label belongs to both
+Satisfies t ρ (same v w) = SameLabel t (ρ v) (ρ w)

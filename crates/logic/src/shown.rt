@@ -1,0 +1,81 @@
+// The plain bytes that the evaluator reads, made once for each verdict.
+ghost use mathlib.Core.Path.{_≡_};
+ghost use Prim.Native.Nat.{ℕ, _<_, _≤_};
+ghost use lib.ListN.{getD};
+ghost use Rattle.labels.specs.Label.{labelOf};
+ghost use Rattle.labels.specs.Table.{lookup, Readable};
+ghost use Rattle.trace.specs.Trace.{noRun};
+ghost use Rattle.rules.specs.Labels.{labelBytes, LabelsOk};
+ghost use Rattle.logic.specs.Shown.{finishedFlag, slotNumber};
+use labels::Label;
+use labels::LabelTable;
+use labels::Slot;
+use trace::Run;
+use trace::RunTable;
+
+// 1 for a finished run, 0 for an open one.
+fn finished_flag(r: Run) -> u8
+    ensures { λ f. ⌜ f ≡ finishedFlag r ⌝ }
+{
+    if 0 < r.end.0 {
+        return 1;
+    }
+    0
+}
+
+// Which runs are finished.
+pub fn finished_runs(t: RunTable) -> [u8; 128]
+    ensures { λ f. ⌜ ((j : ℕ) → j < 128 → getD f j 0 ≡ finishedFlag (getD (t .list) j noRun)) ⌝ }
+{
+    let mut flags = [0u8; 128];
+    let mut j: usize = 0;
+    while j < 128 {
+        let r = t.list[j];
+        flags[j] = finished_flag(r);
+        j += 1;
+    }
+    flags
+}
+
+// The number of each run's label.
+pub fn label_numbers(t: RunTable) -> [u8; 128]
+    ensures { λ n. ⌜ ((j : ℕ) → j < 128 → getD n j 0 ≡ getD (t .list) j noRun .label .0) ⌝ }
+{
+    let mut numbers = [0u8; 128];
+    let mut j: usize = 0;
+    while j < 128 {
+        let r = t.list[j];
+        numbers[j] = r.label.0;
+        j += 1;
+    }
+    numbers
+}
+
+// A label's number in a table: 0 where it was never seen.
+fn number_of(t: LabelTable, x: Label) -> u8
+    requires { ⌜ (x .length ≤ 24) × Readable t ⌝ }
+    ensures { λ n. ⌜ n ≡ slotNumber (lookup t x) ⌝ }
+{
+    let s = labels::find_label(t, x);
+    match s {
+        Slot::Seen(n) => n.0,
+        Slot::Free(_) => 0,
+        Slot::Full => 0,
+    }
+}
+
+// The number of each label of a rule file in the record's table.
+pub fn wanted_numbers(file: &[u8], count: usize, t: LabelTable) -> [u8; 16]
+    requires { ⌜ (count ≤ 16) × LabelsOk (now file) count ⌝ }
+    requires { ⌜ Readable t ⌝ }
+    ensures { λ n. ⌜ ((p : ℕ) → p < count → getD n p 0 ≡ slotNumber (lookup t (labelOf (labelBytes (now (file .entry)) p)))) ⌝ }
+{
+    let mut numbers = [0u8; 16];
+    let mut p: usize = 0;
+    while p < count {
+        let x = rules::file_labels::label_of(file, p);
+        numbers[p] = number_of(t, x);
+        p += 1;
+    }
+    numbers
+}

@@ -1,0 +1,58 @@
+-- A file that is read as a rule is taken.
+use mathlib.Core.Logic.{⊎-elim}
+use borrow.Author.Needs.{needs}
+use Rattle.logic_test.proofs.verdicts.show_in.Statement.{statement}
+use Rattle.logic_test.proofs.verdicts.show_in.Tie as tie
+
+read-rule-requires : tie.Need-read-rule-requires
+read-rule-requires c κs = search needs
+
+enum-known-r : tie.Need-enum-known-r
+enum-known-r c = search needs
+
+show-log-requires : tie.Need-show-log-requires
+show-log-requires c κs = c .before .before .before .before .read-rule .ensures .taken _ (c .before .before .r .given .1)
+
+enum-known-r-2 : tie.Need-enum-known-r-2
+enum-known-r-2 c = search needs
+
+slice-aggregate-write : tie.Need-slice-aggregate-write
+slice-aggregate-write c = search needs
+
+write-requires : tie.Need-write-requires
+write-requires c κs = search needs
+
+cast-write-number : tie.Need-cast-write-number
+cast-write-number c = search needs
+
+write-number-requires : tie.Need-write-number-requires
+write-number-requires c κs = search needs
+
+slice-aggregate-write-2 : tie.Need-slice-aggregate-write-2
+slice-aggregate-write-2 c = search needs
+
+write-requires-2 : tie.Need-write-requires-2
+write-requires-2 c κs = search needs
+
+same-length : tie.Need-same-length
+same-length c = ⊎-elim (λ w. search needs) (λ w. search needs) (c .before .before .match .came)
+
+returns : tie.Need-returns
+returns c = search needs
+
+pub show-in-spec : {M : Type 1} → statement M
+show-in-spec =
+    tie.close
+    (tie.spec
+    read-rule-requires
+    enum-known-r
+    show-log-requires
+    enum-known-r-2
+    slice-aggregate-write
+    write-requires
+    cast-write-number
+    write-number-requires
+    slice-aggregate-write-2
+    write-requires-2
+    same-length
+    returns)

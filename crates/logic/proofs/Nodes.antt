@@ -9,6 +9,7 @@ use native.Mathlib.Numerals.{add-one}
 use native.Mathlib.Omega.{arith}
 use lib.Dec.{eqb}
 use lib.ListN.{getD}
+use borrow.Author.Tests.{eq-eqb, ne-eqb}
 use Rattle.lists.specs.Tells.{Tells}
 use Rattle.lists.proofs.Cases.{either-eq}
 use Rattle.trace.specs.Trace.{Trace}
@@ -119,12 +120,18 @@ module _ (t : Trace) (file pairs finished numbers wanted : List ℕ) (runs : ℕ
         e ∙ (h ∙ sym (ap (eval (modelOf t) ρ) (formula-at file p n x is good)))
 
   -- a flag is 1 exactly if the run is finished
-  pub flag-says : (j : ℕ) → j < 128 → eqb (getD finished j 0) 1 ≡ finished? t j
+  flag-says : (j : ℕ) → j < 128 → eqb (getD finished j 0) 1 ≡ finished? t j
   flag-says j h = ap (λ (f : ℕ). eqb f 1) (s .finished-are j h) ∙ go (finished? t j)
     where
       go : (b : Bool) → eqb (cond b 1 0) 1 ≡ b
       go true = refl
       go false = refl
+
+  pub flag-done : (j : ℕ) → j < 128 → getD finished j 0 ≡ 1 → finished? t j ≡ true
+  flag-done j h e = sym (flag-says j h) ∙ eq-eqb (getD finished j 0) 1 e
+
+  pub flag-none : (j : ℕ) → j < 128 → (getD finished j 0 ≡ 1 → ⊥) → finished? t j ≡ false
+  flag-none j h n = sym (flag-says j h) ∙ ne-eqb (getD finished j 0) 1 n
 
 -- ── the search for a run ──
 -- run i is finished and the formula f is true with variable v at it

@@ -9,6 +9,7 @@ ghost use Rattle.logic.specs.Satisfies.{bind};
 ghost use Rattle.logic.specs.Model.{eval as evalOf, modelOf};
 ghost use Rattle.logic.specs.Shown.{binding, InRange, sameNumber, atomOf, Sized, Shows};
 use crate::Bindings;
+use crate::MAX_RUNS;
 use rules::Node;
 use rules::table::node_at;
 use trace::RunNo;
@@ -59,7 +60,7 @@ fn atom(pairs: &[u8], numbers: &[u8], wanted: &[u8], x: Node, b: Bindings) -> bo
     if kind == 8 {
         return same_number(numbers[j], numbers[k]);
     }
-    pairs[128 * j + k] == kind
+    pairs[MAX_RUNS * j + k] == kind
 }
 
 // Whether the formula of a node is true.
@@ -77,7 +78,9 @@ pub fn eval(
     requires { ⌜ Sized (now file) (now pairs) (now finished) (now numbers) (now wanted) runs ⌝ }
     requires { ⌜ Good (now file) first node ⌝ }
     requires { ⌜ InRange b ⌝ }
-    ensures { λ r. ⌜ ((t : Trace) → Shows t (now (file .entry)) (now (pairs .entry)) (now (finished .entry)) (now (numbers .entry)) (now (wanted .entry)) runs → r ≡ evalOf (modelOf t) (binding b) (formulaAt (now (file .entry)) first node)) ⌝ }
+    ensures { λ r. ⌜ ((t : Trace)
+        → Shows t (now (file .entry)) (now (pairs .entry)) (now (finished .entry)) (now (numbers .entry)) (now (wanted .entry)) runs
+        → r ≡ evalOf (modelOf t) (binding b) (formulaAt (now (file .entry)) first node)) ⌝ }
 {
     let x = node_at(file, first, node);
     let kind = x.kind;
@@ -124,7 +127,9 @@ fn some(
     requires { ⌜ Good (now file) first child ⌝ }
     requires { ⌜ InRange b ⌝ }
     requires { ⌜ v < 4 ⌝ }
-    ensures { λ r. ⌜ ((t : Trace) → Shows t (now (file .entry)) (now (pairs .entry)) (now (finished .entry)) (now (numbers .entry)) (now (wanted .entry)) runs → r ≡ evalOf (modelOf t) (binding b) (exists v (formulaAt (now (file .entry)) first child))) ⌝ }
+    ensures { λ r. ⌜ ((t : Trace)
+        → Shows t (now (file .entry)) (now (pairs .entry)) (now (finished .entry)) (now (numbers .entry)) (now (wanted .entry)) runs
+        → r ≡ evalOf (modelOf t) (binding b) (exists v (formulaAt (now (file .entry)) first child))) ⌝ }
 {
     let mut j: usize = 0;
     while j < runs {

@@ -14,11 +14,15 @@ use trace::RunNo;
 mod evaluate;
 mod shown;
 
+// The runs that a record has places for.
+const MAX_RUNS: usize = 128;
+
 // The run that each variable stands for.
 pub struct Bindings {
     pub run: [RunNo; 4],
 }
 
+// What the check says after a line: the rule holds, or it fails.
 pub enum Verdict {
     Holds,
     Fails,

@@ -7,9 +7,11 @@ ghost use Rattle.labels.specs.Table.{lookup, Readable};
 ghost use Rattle.trace.specs.Trace.{noRun};
 ghost use Rattle.rules.specs.Labels.{labelBytes, LabelsOk};
 ghost use Rattle.logic.specs.Shown.{finishedFlag, slotNumber};
+use crate::MAX_RUNS;
 use labels::Label;
 use labels::LabelTable;
 use labels::Slot;
+use rules::MAX_LABELS;
 use trace::Run;
 use trace::RunTable;
 
@@ -24,12 +26,12 @@ fn finished_flag(r: Run) -> u8
 }
 
 // Which runs are finished.
-pub fn finished_runs(t: RunTable) -> [u8; 128]
+pub fn finished_runs(t: RunTable) -> [u8; MAX_RUNS]
     ensures { λ f. ⌜ ((j : ℕ) → j < 128 → getD f j 0 ≡ finishedFlag (getD (t .list) j noRun)) ⌝ }
 {
-    let mut flags = [0u8; 128];
+    let mut flags = [0u8; MAX_RUNS];
     let mut j: usize = 0;
-    while j < 128 {
+    while j < MAX_RUNS {
         let r = t.list[j];
         flags[j] = finished_flag(r);
         j += 1;
@@ -38,12 +40,12 @@ pub fn finished_runs(t: RunTable) -> [u8; 128]
 }
 
 // The number of each run's label.
-pub fn label_numbers(t: RunTable) -> [u8; 128]
+pub fn label_numbers(t: RunTable) -> [u8; MAX_RUNS]
     ensures { λ n. ⌜ ((j : ℕ) → j < 128 → getD n j 0 ≡ getD (t .list) j noRun .label .0) ⌝ }
 {
-    let mut numbers = [0u8; 128];
+    let mut numbers = [0u8; MAX_RUNS];
     let mut j: usize = 0;
-    while j < 128 {
+    while j < MAX_RUNS {
         let r = t.list[j];
         numbers[j] = r.label.0;
         j += 1;
@@ -65,12 +67,12 @@ fn number_of(t: LabelTable, x: Label) -> u8
 }
 
 // The number of each label of a rule file in the record's table.
-pub fn wanted_numbers(file: &[u8], count: usize, t: LabelTable) -> [u8; 16]
+pub fn wanted_numbers(file: &[u8], count: usize, t: LabelTable) -> [u8; MAX_LABELS]
     requires { ⌜ (count ≤ 16) × LabelsOk (now file) count ⌝ }
     requires { ⌜ Readable t ⌝ }
     ensures { λ n. ⌜ ((p : ℕ) → p < count → getD n p 0 ≡ slotNumber (lookup t (labelOf (labelBytes (now (file .entry)) p)))) ⌝ }
 {
-    let mut numbers = [0u8; 16];
+    let mut numbers = [0u8; MAX_LABELS];
     let mut p: usize = 0;
     while p < count {
         let x = rules::file_labels::label_of(file, p);

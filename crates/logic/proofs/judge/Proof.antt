@@ -53,21 +53,31 @@ returns : tie.Need-returns
 returns c =
     let s = c .before .before .before .before .before .before .before .before .before .before .before .before .before in
     let a = s .args in
-    let made : Made (a .file .now) (a .rule) (a .r) (c .before .before .before .before .before .before .before .before .finished-runs .result) (c .before .before .before .before .before .before .before .label-numbers .result) (c .before .before .before .before .before .before .wanted-numbers .result) =
-    record { flags = c .before .before .before .before .before .before .before .before .finished-runs .ensures; labels = c .before .before .before .before .before .before .before .label-numbers .ensures; places = c .before .before .before .before .before .before .wanted-numbers .ensures } in
-    λ log t ok e w.
+    let w = c .before .before .before .before .before .before in
+    let made : Made (a .file .now) (a .rule) (a .r) (w .before .before .finished-runs .result) (w .before .label-numbers .result) (w .wanted-numbers .result) =
+    record {
+      flags = w .before .before .finished-runs .ensures;
+      labels = w .before .label-numbers .ensures;
+      places = w .wanted-numbers .ensures;
+    } in
+    λ log t ok e p.
     subst (λ (b : Bool). Says t (formulaOf (a .file .now) (a .rule)) (cond b Holds Fails)) (c .if1 .taken)
-    (root-says (a .file .now) (a .rule) (s .pre .0) (a .r) (a .work .now) _ _ _ made _ (c .before .eval .result) (c .before .eval .ensures) log t ok e w)
+    (root-says (a .file .now) (a .rule) (s .pre .0) (a .r) (a .work .now) _ _ _ made _ (c .before .eval .result) (c .before .eval .ensures) log t ok e p)
 
 returns-2 : tie.Need-returns-2
 returns-2 c =
     let s = c .before .before .before .before .before .before .before .before .before .before .before .before .before in
     let a = s .args in
-    let made : Made (a .file .now) (a .rule) (a .r) (c .before .before .before .before .before .before .before .before .finished-runs .result) (c .before .before .before .before .before .before .before .label-numbers .result) (c .before .before .before .before .before .before .wanted-numbers .result) =
-    record { flags = c .before .before .before .before .before .before .before .before .finished-runs .ensures; labels = c .before .before .before .before .before .before .before .label-numbers .ensures; places = c .before .before .before .before .before .before .wanted-numbers .ensures } in
-    λ log t ok e w.
+    let w = c .before .before .before .before .before .before in
+    let made : Made (a .file .now) (a .rule) (a .r) (w .before .before .finished-runs .result) (w .before .label-numbers .result) (w .wanted-numbers .result) =
+    record {
+      flags = w .before .before .finished-runs .ensures;
+      labels = w .before .label-numbers .ensures;
+      places = w .wanted-numbers .ensures;
+    } in
+    λ log t ok e p.
     subst (λ (b : Bool). Says t (formulaOf (a .file .now) (a .rule)) (cond b Holds Fails)) (c .if1 .left)
-    (root-says (a .file .now) (a .rule) (s .pre .0) (a .r) (a .work .now) _ _ _ made _ (c .before .eval .result) (c .before .eval .ensures) log t ok e w)
+    (root-says (a .file .now) (a .rule) (s .pre .0) (a .r) (a .work .now) _ _ _ made _ (c .before .eval .result) (c .before .eval .ensures) log t ok e p)
 
 pub judge-spec : {M : Type 1} → statement M
 judge-spec =

@@ -1,20 +1,19 @@
 -- The evaluator. Each call descends into a child, whose number is smaller: twice the node's number falls, and a "some" lies between
 -- its node and its child. A node's answer is its formula's truth value if its children's answers are theirs. The loop of "some"
 -- has found no finished run so far at which the child is true.
-use mathlib.Core.Path.{_≡_, refl, sym, subst, _∙_}
+use mathlib.Core.Path.{_≡_, refl, sym, subst}
 use mathlib.Core.Bool.{true, false}
 use mathlib.Core.Logic.{⊎-elim}
 use Prim.Native.Nat.{_≤_, _+_, _*_, _-_}
 use native.Mathlib.Omega.{arith}
-use borrow.Author.Tests.{eq-eqb, ne-eqb}
-use lib.ListN.{length, getD}
+use lib.ListN.{length}
 use Rattle.trace.specs.Trace.{Trace}
 use Rattle.rules.specs.Table.{formulaAt}
 use Rattle.logic.specs.Satisfies.{Binding}
 use Rattle.logic.specs.Model.{anyBelow, eval as evalOf, modelOf}
 use Rattle.logic.specs.Shown.{binding, Shows}
 use Rattle.rules.proofs.Formulas.{good-room, and-left-child, and-right-child, not-child, some-child, some-variable, atom-fields}
-use Rattle.logic.proofs.Nodes.{truth-and, truth-and-not, truth-not, truth-some, atom-more, atom-says, flag-says, FoundAt, found-yes, none-more, finished-run, open-run, bind-low}
+use Rattle.logic.proofs.Nodes.{truth-and, truth-and-not, truth-not, truth-some, atom-more, atom-says, flag-done, flag-none, FoundAt, found-yes, none-more, finished-run, open-run, bind-low}
 use Prim.Native.Nat.{ℕ, _<_}
 use borrow.Fn.Kinds.{In}
 use borrow.Fn.PlainCycle.{Measures, is, falls, and}
@@ -160,7 +159,7 @@ some-returns t c =
     let low : i < 128 = omega (arith, s .pre .1 .0 .runs-few) in
     λ u w.
     let q = formulaAt (a .file .now) (a .first) (a .child) in
-    let done = sym (flag-says u (a .file .now) (a .pairs .now) (a .finished .now) (a .numbers .now) (a .wanted .now) (a .runs) w i low) ∙ eq-eqb (getD (a .finished .now) i 0) 1 (c .before .before .before .if1 .taken) in
+    let done = flag-done u _ _ _ _ _ _ w i low (c .before .before .before .if1 .taken) in
     sym (found-yes (FoundAt (modelOf u) (binding (a .b)) (a .v) q) (length (u .runs)) i (omega (arith, w .runs-are))
     (finished-run (modelOf u) (binding (a .b)) (binding (c .before .before .rebound .result)) (a .v) i q (c .before .eval .result) true done
     (c .before .before .rebound .ensures) (c .before .eval .ensures u w) (c .if2 .taken)))
@@ -180,12 +179,11 @@ some-loop-again t c =
       omega arith,
       λ u w.
           let q = formulaAt (a .file .now) (a .first) (a .child) in
-          let says = flag-says u (a .file .now) (a .pairs .now) (a .finished .now) (a .numbers .now) (a .wanted .now) (a .runs) w i low in
           none-more (FoundAt (modelOf u) (binding (a .b)) (a .v) q) i (c .before .before .before .loop .inv .1 u w)
           (⊎-elim
           (λ h. finished-run (modelOf u) (binding (a .b)) (binding (h .1 .result)) (a .v) i q (h .2 .result) false
-          (sym says ∙ eq-eqb (getD (a .finished .now) i 0) 1 (h .0 .taken)) (h .1 .ensures) (h .2 .ensures u w) (h .3 .left))
-          (λ h. open-run (modelOf u) (binding (a .b)) (a .v) i q (sym says ∙ ne-eqb (getD (a .finished .now) i 0) 1 (h .left)))
+          (flag-done u _ _ _ _ _ _ w i low (h .0 .taken)) (h .1 .ensures) (h .2 .ensures u w) (h .3 .left))
+          (λ h. open-run (modelOf u) (binding (a .b)) (a .v) i q (flag-none u _ _ _ _ _ _ w i low (h .left)))
           (c .if1 .came)),
     )
 

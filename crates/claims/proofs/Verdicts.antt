@@ -1,0 +1,109 @@
+-- Demand 2: what is noted and said after every accepted line.
+use Prim.Native.Nat.{ℕ, suc, _+_, _≤_, _<_}
+use mathlib.Core.Path.{_≡_, refl, ap, sym, _∙_, subst}
+use mathlib.Core.List.{List, [], _∷_}
+use mathlib.Core.Option.{some}
+use native.Mathlib.Omega.{arith}
+use lib.ListN.{length, getD, take}
+use borrow.Author.Tests.{lt-ltb, le-ltb}
+use Rattle.lists.proofs.Cases.{either-lt}
+use Rattle.lines.specs.Line.{eventOf}
+use Rattle.lines.specs.Log.{linesOf}
+use Rattle.trace.specs.declared.Record.{Record}
+use Rattle.trace.specs.Trace.{Trace, Answer, next, refused, noTrace, apply, read, steps, Accepted}
+use Rattle.trace.specs.Record.{recordOf}
+use Rattle.trace.proofs.Taken.{not-taken}
+use Rattle.trace.proofs.Grown.{step-is, no-bytes}
+use Rattle.trace.proofs.Bounds.{accepted-bounded}
+use Rattle.pairs.specs.Pairs.{workOf}
+use Rattle.pairs.proofs.Accepted.{pair-byte-names-the-order}
+use Rattle.relations.proofs.Pairs.{pair-byte-noted}
+use Rattle.rules.specs.declared.Rule.{Rule}
+use Rattle.rules.specs.declared.RuleRead.the-variants as RuleRead
+use Rattle.rules.specs.Rules.{ruleOf, formulaOf, Taken}
+use Rattle.rules.proofs.Rules.{reads-rule}
+use Rattle.logic.specs.declared.Verdict.{Verdict}
+use Rattle.logic.specs.Verdict.{verdictByte, verdictOf}
+use Rattle.monitor.specs.declared.Outcome.the-variants.{Refused}
+use Rattle.monitor.specs.declared.Ending.the-variants as Ending
+use Rattle.monitor.specs.Handed.{Left}
+use Rattle.monitor.specs.Line.{judged, stateOf, lineOf, TakenLine}
+use Rattle.monitor.specs.Tally.{tallyOf}
+use Rattle.monitor.specs.Log.{ended, linesFrom, logOf}
+use Rattle.monitor.specs.Repeated.{Result}
+use Rattle.monitor.proofs.LineMeans.{judged-taken, verdict-says, line-means}
+use Rattle.monitor.proofs.LineCall.{with-taken}
+use Rattle.monitor.proofs.Lines.{by-answer, from-none, from-taken}
+use Rattle.monitor.proofs.Prefixes.{stays-refused, line-byte, prefix-taken}
+use Rattle.monitor.proofs.TallyLaws.{accepted-tally}
+use Rattle.claims.specs.Demands.{Settled, ReadToEnd, Demand2}
+
+rule-taken : (file : List ℕ) (x : Rule) → ruleOf file ≡ RuleRead.Rule x → Taken file x
+rule-taken file x e = reads-rule file (RuleRead.Rule x) (sym e) .taken x refl
+
+settled : (file : List ℕ) (x : Rule) → ruleOf file ≡ RuleRead.Rule x → (log : List ℕ) (t : Trace) → Accepted log t → Settled file x t (verdictOf t (formulaOf file x))
+settled file x e log t a =
+    record {
+      noted = λ j k. pair-byte-noted log t a j k;
+      order = pair-byte-names-the-order log t a;
+      verdict = verdict-says file x (rule-taken file x e) t;
+    }
+
+line-taken : (file : List ℕ) (x : Rule) → ruleOf file ≡ RuleRead.Rule x → (log : List ℕ) (t : Trace) (r : Record) (w line : List ℕ) → Left log t r w
+    → (v : Verdict) → lineOf file r w line (some t) .0 .outcome ≡ judged v
+    → TakenLine file x log line w v (lineOf file r w line (some t) .0 .state) (lineOf file r w line (some t) .1)
+unfolding lineOf stateOf
+line-taken file x e log t r w line l v =
+    either-lt (length w) 16384
+    (λ h. simp (lt-ltb _ _ h) (λ o. judged-taken v 20 (sym o)))
+    (λ h. line-means file x t w line _ _ (simp (le-ltb _ _ h) (with-taken (ruleOf file) x _ _ e)) (rule-taken file x e) log r (l .accepted) (l .encoded) .taken v)
+
+module _ (file : List ℕ) (x : Rule) (w : List ℕ) where
+  -- lines that are taken are read to their end
+  to-end : (ls : List (List ℕ)) (t u : Trace) (out : List ℕ) → steps (next t) ls ≡ next u
+      → (linesFrom file x t ls w out .0 ≡ ended u Ending.Read) × (linesFrom file x t ls w out .1 ≡ workOf (u .runs) w)
+  to-end [] t u out e =
+      let f = from-none file x t w out in
+      let g : t ≡ u = cc in
+      (ap (λ (z : Result). z .0) f ∙ ap (λ (z : Trace). ended z Ending.Read) g, ap (λ (z : Result). z .1) f ∙ ap (λ (z : Trace). workOf (z .runs) w) g)
+  to-end (l ∷ ls) t u out e =
+      by-answer t l
+      (λ v p.
+      let f = from-taken file x t l ls w out v p in
+      let g = to-end ls v u _ (ap (λ (a : Answer). steps a ls) (sym (step-is t l ∙ p)) ∙ e) in
+      (ap (λ (z : Result). z .0) f ∙ g .0, ap (λ (z : Result). z .1) f ∙ g .1))
+      (λ c p. not-taken c u (sym (stays-refused c ls) ∙ (ap (λ (a : Answer). steps a ls) (sym (step-is t l ∙ p)) ∙ e)))
+
+  -- the byte of line k + 1, counted from the first line
+  first-byte : (ls : List (List ℕ)) (out : List ℕ) (k : ℕ) (u : Trace) → k < length ls → steps (next noTrace) (take (suc k) ls) ≡ next u → k < length out
+      → getD (linesFrom file x noTrace ls w out .2) k 0 ≡ verdictByte (verdictOf u (formulaOf file x))
+  first-byte ls out k u h e room =
+      let z : 0 + k ≡ k = omega arith in
+      subst (λ (j : ℕ). getD (linesFrom file x noTrace ls w out .2) j 0 ≡ verdictByte (verdictOf u (formulaOf file x))) z (line-byte file x w k ls noTrace out u h e (omega arith))
+
+lines-fit : (log : List ℕ) (t : Trace) → Accepted log t → length (linesOf log) ≤ 256
+unfolding tallyOf
+lines-fit log t a = let n : t .lines ≡ length (linesOf log) = accepted-tally log t 0 a .lines in omega (arith, accepted-bounded log t a .lines)
+
+log-read : (file : List ℕ) (x : Rule) → ruleOf file ≡ RuleRead.Rule x → (log : List ℕ) (t : Trace) → Accepted log t
+    → (w out : List ℕ) → 16384 ≤ length w → 256 ≤ length out → ReadToEnd file x log t w out
+unfolding logOf read
+log-read file x e log t a w out long room =
+    let f : logOf file log w out ≡ linesFrom file x noTrace (linesOf log) w out = simp (le-ltb _ _ long, le-ltb _ _ room) (with-taken (ruleOf file) x _ _ e) in
+    let g = to-end file x w (linesOf log) noTrace t out (a .leaves) in
+    let n : length (linesOf log) ≤ 256 = lines-fit log t a in
+    record {
+      state = ap (λ (z : Result). z .0) f ∙ g .0;
+      pairs = ap (λ (z : Result). z .1) f ∙ g .1;
+      verdicts = λ k h.
+          let p = prefix-taken (suc k) (linesOf log) [] noTrace no-bytes t (a .leaves) in
+          record {
+            trace = p .0;
+            leaves = p .1;
+            byte = ap (λ (z : Result). getD (z .2) k 0) f ∙ first-byte file x w (linesOf log) out k (p .0) h (p .1) (omega arith);
+            verdict = verdict-says file x (rule-taken file x e) (p .0);
+          };
+    }
+
+pub demand-2 : Demand2
+demand-2 = record { settled = settled; line = line-taken; log = log-read }

@@ -1,0 +1,16 @@
+pub mod Parsed
+pub mod Settled
+pub mod Known
+pub mod StepLine
+pub mod LineMeans
+pub mod LineCall
+pub mod Lines
+pub mod Turns
+pub mod Tallies
+pub mod Reading
+pub mod TallyCall
+pub mod LogCall
+pub mod Repeated
+pub mod Prefixes
+pub mod Cut
+pub mod TallyLaws

@@ -1,0 +1,109 @@
+-- A log's verdicts are those of its prefixes: the verdict byte of line k + 1 is the verdict of what the first k + 1 lines leave.
+-- Each line stores its byte at the count of the lines before it, and no later line touches it.
+use Prim.Native.Nat.{ℕ, zero, suc, _+_, _<_, _≤_}
+use mathlib.Core.Path.{_≡_, refl, ap, sym, _∙_, subst}
+use mathlib.Core.List.{List, [], _∷_, _++_, append-assoc}
+use native.Mathlib.Omega.{arith}
+use lib.ListN.{length, getD, set, take, length-set}
+use lib.Seq.{getD-set-same, getD-set-other}
+use Rattle.lists.proofs.Lists.{append-nil}
+use Rattle.lines.specs.Line.{eventOf}
+use Rattle.lines.specs.Log.{linesOf}
+use Rattle.trace.specs.Trace.{Trace, Answer, next, refused, noTrace, apply, applyTo, step, steps, read, Accepted}
+use Rattle.trace.proofs.Taken.{not-taken, step-lines}
+use Rattle.trace.proofs.Grown.{step-is, taken-grows, no-bytes, flat}
+use Rattle.rules.specs.declared.Rule.{Rule}
+use Rattle.rules.specs.Rules.{formulaOf}
+use Rattle.logic.specs.Verdict.{verdictByte, verdictOf}
+use Rattle.monitor.specs.Log.{linesFrom}
+use Rattle.monitor.specs.Repeated.{Result}
+use Rattle.monitor.proofs.Lines.{from-none, from-taken, from-refused, by-answer}
+
+pub stays-refused : (c : ℕ) (ls : List (List ℕ)) → steps (refused c) ls ≡ refused c
+unfolding step applyTo
+stays-refused c [] = refl
+stays-refused c (l ∷ ls) = stays-refused c ls
+
+module _ (file : List ℕ) (x : Rule) (w : List ℕ) where
+  -- the verdict buffer after the lines
+  abbrev bytesFrom : Trace → List (List ℕ) → List ℕ → List ℕ
+  bytesFrom t ls out = linesFrom file x t ls w out .2
+
+  abbrev byteOf : Trace → ℕ
+  byteOf u = verdictByte (verdictOf u (formulaOf file x))
+
+  after-taken : (t : Trace) (l : List ℕ) (ls : List (List ℕ)) (out : List ℕ) (u : Trace) → apply t (eventOf l) ≡ next u
+      → bytesFrom t (l ∷ ls) out ≡ bytesFrom u ls (set out (t .lines) (byteOf u))
+  after-taken t l ls out u p = ap (λ (z : Result). z .2) (from-taken file x t l ls w out u p)
+
+  -- the bytes before those of the lines, and past them, stay
+  pub kept-byte : (ls : List (List ℕ)) (t : Trace) (out : List ℕ) (j : ℕ) → j < t .lines → getD (bytesFrom t ls out) j 0 ≡ getD out j 0
+  kept-byte [] t out j h = ap (λ (z : Result). getD (z .2) j 0) (from-none file x t w out)
+  kept-byte (l ∷ ls) t out j h =
+      by-answer t l
+      (λ u p.
+      let n : j < u .lines = omega (arith, step-lines t u (eventOf l) p) in
+      ap (λ (o : List ℕ). getD o j 0) (after-taken t l ls out u p)
+      ∙ (kept-byte ls u (set out (t .lines) (byteOf u)) j n ∙ getD-set-other out (t .lines) j (byteOf u) 0 (λ e. omega arith)))
+      (λ c p. ap (λ (z : Result). getD (z .2) j 0) (from-refused file x t l ls w out c p))
+
+  pub line-byte : (k : ℕ) (ls : List (List ℕ)) (t : Trace) (out : List ℕ) (u : Trace) → k < length ls → steps (next t) (take (suc k) ls) ≡ next u
+      → t .lines + k < length out → getD (bytesFrom t ls out) (t .lines + k) 0 ≡ byteOf u
+  line-byte k [] t out u h e room = absurd (omega arith)
+  line-byte zero (l ∷ ls) t out u h e room =
+      let p : apply t (eventOf l) ≡ next u = sym (step-is t l) ∙ e in
+      let z : t .lines + 0 ≡ t .lines = omega arith in
+      let n : t .lines < u .lines = omega (arith, step-lines t u (eventOf l) p) in
+      let r : t .lines < length out = omega arith in
+      ap (λ (o : List ℕ). getD o (t .lines + 0) 0) (after-taken t l ls out u p)
+      ∙ (ap (λ (j : ℕ). getD (bytesFrom u ls (set out (t .lines) (byteOf u))) j 0) z
+      ∙ (kept-byte ls u (set out (t .lines) (byteOf u)) (t .lines) n ∙ getD-set-same out (t .lines) (byteOf u) 0 r))
+  line-byte (suc k) (l ∷ ls) t out u h e room =
+      by-answer t l
+      (λ v p.
+      let q : steps (next v) (take (suc k) ls) ≡ next u = ap (λ (a : Answer). steps a (take (suc k) ls)) (sym (step-is t l ∙ p)) ∙ e in
+      let n : v .lines ≡ t .lines + 1 = step-lines t v (eventOf l) p in
+      let i : t .lines + suc k ≡ v .lines + k = omega arith in
+      let r : v .lines + k < length (set out (t .lines) (byteOf v)) = omega (arith, length-set out (t .lines) (byteOf v)) in
+      ap (λ (o : List ℕ). getD o (t .lines + suc k) 0) (after-taken t l ls out v p)
+      ∙ (ap (λ (j : ℕ). getD (bytesFrom v ls (set out (t .lines) (byteOf v))) j 0) i ∙ line-byte k ls v (set out (t .lines) (byteOf v)) u (omega arith) q r))
+      (λ c p.
+      let q : steps (refused c) (take (suc k) ls) ≡ next u = ap (λ (a : Answer). steps a (take (suc k) ls)) (sym (step-is t l ∙ p)) ∙ e in
+      not-taken c u (sym (stays-refused c (take (suc k) ls)) ∙ q))
+
+-- ── prefixes ──
+-- the first k lines of lines that are taken are taken
+pub prefix-taken : (k : ℕ) (ls : List (List ℕ)) (log : List ℕ) (s : Trace) → Accepted log s → (t : Trace) → steps (next s) ls ≡ next t
+    → (u : Trace) × (steps (next s) (take k ls) ≡ next u) × Accepted (log ++ flat (take k ls)) u
+prefix-taken zero ls log s a t e = (s, refl, subst (λ (l : List ℕ). Accepted l s) (sym (append-nil log)) a)
+prefix-taken (suc k) [] log s a t e = (s, refl, subst (λ (l : List ℕ). Accepted l s) (sym (append-nil log)) a)
+prefix-taken (suc k) (l ∷ ls) log s a t e =
+    by-answer s l
+    (λ v p.
+    let q : step (next s) l ≡ next v = step-is s l ∙ p in
+    let h = prefix-taken k ls (log ++ l) v (taken-grows log s a l v p) t (ap (λ (b : Answer). steps b ls) (sym q) ∙ e) in
+    (h .0, ap (λ (b : Answer). steps b (take k ls)) q ∙ h .1, subst (λ (m : List ℕ). Accepted m (h .0)) (append-assoc log l (flat (take k ls))) (h .2)))
+    (λ c p. not-taken c t (sym (stays-refused c ls) ∙ (ap (λ (b : Answer). steps b ls) (sym (step-is s l ∙ p)) ∙ e)))
+
+-- the log of the first k lines
+abbrev pub prefix : ℕ → List ℕ → List ℕ
+prefix k log = flat (take k (linesOf log))
+
+pub record VerdictOfPrefix (file : List ℕ) (x : Rule) (log w out : List ℕ) (k : ℕ) : Type 0 where
+  pub trace : Trace
+  pub accepted : Accepted (prefix (suc k) log) trace
+  pub byte : getD (linesFrom file x noTrace (linesOf log) w out .2) k 0 ≡ verdictByte (verdictOf trace (formulaOf file x))
+
+-- THE LAW: the verdict byte at k of an accepted log is the verdict of its first k + 1 lines.
+pub verdicts-of-prefixes : (file : List ℕ) (x : Rule) (log w out : List ℕ) (t : Trace) → Accepted log t → (k : ℕ) → k < length (linesOf log) → k < length out
+    → VerdictOfPrefix file x log w out k
+unfolding read
+verdicts-of-prefixes file x log w out t a k h room =
+    let g = prefix-taken (suc k) (linesOf log) [] noTrace no-bytes t (a .leaves) in
+    let z : 0 + k ≡ k = omega arith in
+    record {
+      trace = g .0;
+      accepted = g .2;
+      byte = subst (λ (j : ℕ). getD (linesFrom file x noTrace (linesOf log) w out .2) j 0 ≡ verdictByte (verdictOf (g .0) (formulaOf file x))) z
+          (line-byte file x w k (linesOf log) noTrace out (g .0) h (g .1) (omega arith));
+    }

@@ -1,0 +1,102 @@
+-- What a tally says of the lines: its counts are those of the begin and end lines of the log, and the call with a tally answers what
+-- the single-line call answers.
+use Prim.Native.Nat.{ℕ, _+_, _-_, _≤_}
+use mathlib.Core.Path.{_≡_, refl, ap, sym, _∙_, subst}
+use mathlib.Core.Bool.{Bool, true, false, cond}
+use mathlib.Core.List.{List, [], _∷_}
+use mathlib.Core.Option.{Option, none, some}
+use native.Mathlib.Omega.{arith}
+use lib.Dec.{ltb}
+use lib.ListN.{length}
+use borrow.Author.Tests.{le-ltb}
+use Rattle.lists.proofs.Cases.{either-bool}
+use Rattle.labels.specs.Label.{labelOf}
+use Rattle.lines.specs.Event.{Event, begins, ends, faulty}
+use Rattle.lines.specs.Line.{eventOf}
+use Rattle.lines.specs.Log.{linesOf}
+use Rattle.trace.specs.declared.Record.{Record}
+use Rattle.trace.specs.Trace.{Trace, Answer, next, refused, noTrace, apply, Accepted}
+use Rattle.trace.specs.Record.{recordOf}
+use Rattle.trace.proofs.Taken.{event-taken, step-lines}
+use Rattle.trace.proofs.Finished.{finishedIn, Counts, begin-counts, end-counts}
+use Rattle.trace.proofs.Induction.{accepted-keeps}
+use Rattle.rules.specs.declared.Rule.{Rule}
+use Rattle.rules.specs.declared.RuleRead.{RuleRead}
+use Rattle.rules.specs.declared.RuleRead.the-variants as RuleRead
+use Rattle.rules.specs.Rules.{ruleOf, Taken}
+use Rattle.monitor.specs.declared.Checked.{Checked}
+use Rattle.monitor.specs.declared.Tally.{Tally}
+use Rattle.monitor.specs.declared.Tallied.{Tallied}
+use Rattle.monitor.specs.Handed.{Left}
+use Rattle.monitor.specs.Line.{refusing, lineAfter, stateOf, withRule, lineOf, LineMeans}
+use Rattle.monitor.specs.Tally.{finishedRuns, tallyOf, beginsRun, endsRun, beginLines, endLines, counts?, refusingWith, talliedAfter, talliedState, talliedOf, ChecksTallied}
+use Rattle.monitor.proofs.Known.{pairs-long}
+use Rattle.monitor.proofs.LineMeans.{line-means}
+use Rattle.monitor.proofs.LineCall.{with-taken}
+use Rattle.monitor.proofs.Tallies.{finished-same, finished-most}
+
+-- ── the counts are those of the lines ──
+-- a taken line is a begin line with one run more, or an end line with one finished run more
+taken-counts : (l : List ℕ) (t u : Trace) → apply t (eventOf l) ≡ next u
+    → (length (u .runs) ≡ length (t .runs) + beginsRun (eventOf l)) × (finishedRuns (u .runs) ≡ finishedRuns (t .runs) + endsRun (eventOf l))
+taken-counts l t u =
+    event-taken (λ e. (length (u .runs) ≡ length (t .runs) + beginsRun e) × (finishedRuns (u .runs) ≡ finishedRuns (t .runs) + endsRun e)) t u
+    (λ i s b.
+    let c : Counts t u 1 0 = subst (λ (v : Trace). Counts t v 1 0) (sym (b .is)) (begin-counts t i (labelOf s)) in
+    (c .runs, omega (arith, finished-same (t .runs), finished-same (u .runs), c .finished)))
+    (λ i b.
+    let c : Counts t u 0 1 = subst (λ (v : Trace). Counts t v 0 1) (sym (b .is)) (end-counts t i (b .old) (b .running)) in
+    (c .runs, omega (arith, finished-same (t .runs), finished-same (u .runs), c .finished)))
+    (eventOf l)
+
+pub record TallyCounts (log : List ℕ) (y : Tally) : Type 0 where
+  pub lines : y .lines ≡ length (linesOf log)
+  pub begun : y .begun ≡ beginLines (linesOf log)
+  pub finished : y .finished ≡ endLines (linesOf log)
+  pub balance : y .begun ≡ y .finished + y .running
+
+-- THE LAW: "Begun is the count of accepted begin lines, finished that of accepted end lines, and begun equals finished plus open."
+pub accepted-tally : (log : List ℕ) (t : Trace) (n : ℕ) → Accepted log t → TallyCounts log (tallyOf t n)
+unfolding tallyOf beginLines endLines finishedRuns
+accepted-tally log t n a =
+    let k =
+    accepted-keeps
+    (λ ls t. (length (linesOf log) ≡ t .lines + length ls) × (beginLines (linesOf log) ≡ length (t .runs) + beginLines ls) × (endLines (linesOf log) ≡ finishedRuns (t .runs) + endLines ls))
+    (λ l ls t u h e. (omega (arith, h .0, step-lines t u (eventOf l) e), omega (arith, h .1, taken-counts l t u e .0), omega (arith, h .2, taken-counts l t u e .1)))
+    log t a (omega arith, omega arith, omega arith) in
+    record {
+      lines = omega (arith, k .0);
+      begun = omega (arith, k .1);
+      finished = omega (arith, k .2);
+      balance = omega (arith, finished-most (t .runs));
+    }
+
+-- ── the call with a tally is the single-line call ──
+-- the answer without its tally
+abbrev pub untallied : Tallied × List ℕ → Checked × List ℕ
+untallied z = (record { state = z .0 .state; outcome = z .0 .outcome }, z .1)
+
+module _ (file : List ℕ) (r : Record) (y : Tally) (w line : List ℕ) where
+  pub tallied-is-line : (t : Trace) → counts? t y ≡ true → untallied (talliedOf file r y w line (some t)) ≡ lineOf file r w line (some t)
+  unfolding talliedOf lineOf withRule talliedState stateOf talliedAfter lineAfter
+  tallied-is-line t p = either-bool (ltb (length w) 16384) (λ e. simp e) (λ e. simp e (by-rule (ruleOf file)))
+    where
+      by-answer : (x : Rule) (a : Answer) → untallied (talliedAfter file x t y w a) ≡ lineAfter file x t w a
+      by-answer x (next u) = refl
+      by-answer x (refused c) = refl
+
+      by-rule : (q : RuleRead) → untallied (withRule q (λ n. (refusingWith r y n, w)) (λ x. talliedState file x r y w line (some t)))
+          ≡ withRule q (λ n. (refusing r n, w)) (λ x. stateOf file x r w line (some t))
+      by-rule (RuleRead.Rule x) = simp p (by-answer x (apply t (eventOf line)))
+      by-rule (RuleRead.Refused n) = refl
+
+  -- so its answer means the same
+  pub tallied-means : (a : Tallied) (v : List ℕ) → ChecksTallied file r y w line a v → (x : Rule) → ruleOf file ≡ RuleRead.Rule x → Taken file x
+      → (log : List ℕ) (t : Trace) → Left log t r w → counts? t y ≡ true → LineMeans file x log t r w line (record { state = a .state; outcome = a .outcome }) v
+  unfolding lineOf stateOf
+  tallied-means a v k x rule taken log t l p =
+      let long : 16384 ≤ length w = pairs-long (t .runs) w w (l .pairs) in
+      let e : _≡_ {A = Checked × List ℕ} (record { state = a .state; outcome = a .outcome }, v) (lineOf file r w line (some t)) =
+      ap untallied (k .answer (some t) (λ _. (log, l))) ∙ tallied-is-line t p in
+      let s : lineOf file r w line (some t) ≡ stateOf file x r w line (some t) = simp (le-ltb (length w) 16384 long) (with-taken (ruleOf file) x _ _ rule) in
+      line-means file x t w line (record { state = a .state; outcome = a .outcome }) v (e ∙ s) taken log r (l .accepted) (l .encoded)

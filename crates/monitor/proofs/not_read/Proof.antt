@@ -1,0 +1,18 @@
+use Rattle.monitor.proofs.LogCall.{not-read}
+use borrow.Author.Needs.{needs}
+use Rattle.monitor.proofs.not_read.Statement.{statement}
+use Rattle.monitor.proofs.not_read.Tie as tie
+use Rattle.monitor.proofs.not_read.Reads as reads
+use Rattle.monitor.proofs.not_read.Lts as lts
+use Rattle.trace.proofs.no_lines.Reads as no-lines-reads
+
+-- src/lib.rt:143:9
+no-lines-requires : tie.Need-no-lines-requires
+no-lines-requires c κs = search needs
+
+-- src/lib.rt:140:1
+returns : tie.Need-returns
+returns c = search not-read
+
+pub not-read-spec : {M : Type 1} → statement M
+not-read-spec = tie.close (tie.spec no-lines-requires returns)

@@ -1,0 +1,49 @@
+-- The whole-log call: "One call takes a rule, a whole log, a work area and a verdict buffer of at least 256 bytes, a byte a line,
+-- 1 holds, 0 fails, the rest untouched; it answers the record. It starts a record itself."
+use Prim.Native.Nat.{ℕ, _+_}
+use mathlib.Core.Path.{_≡_}
+use mathlib.Core.Bool.{cond, _||_}
+use mathlib.Core.List.{List, [], _∷_}
+use lib.Dec.{ltb}
+use lib.ListN.{length, set}
+use Rattle.lines.specs.Line.{eventOf}
+use Rattle.lines.specs.Log.{linesOf}
+use Rattle.trace.specs.Trace.{Trace, Answer, next, refused, noTrace, apply}
+use Rattle.trace.specs.Record.{recordOf}
+use Rattle.pairs.specs.Pairs.{workOf}
+use Rattle.rules.specs.declared.Rule.{Rule}
+use Rattle.rules.specs.Rules.{ruleOf, formulaOf}
+use Rattle.logic.specs.Verdict.{verdictByte, verdictOf}
+use Rattle.monitor.specs.declared.Ending.{Ending}
+use Rattle.monitor.specs.declared.Ending.the-variants.{Read, Refused}
+use Rattle.monitor.specs.declared.LogChecked.{LogChecked}
+use Rattle.monitor.specs.Line.{withRule}
+
+-- by what a line leaves
+unfoldable pub byAnswer : {A : Type 0} → Answer → (Trace → A) → (ℕ → A) → A
+byAnswer (next u) f g = f u
+byAnswer (refused c) f g = g c
+
+-- the record of the lines that t stands for, and how the reading ended
+abbrev pub ended : Trace → Ending → LogChecked
+ended t e = record { state = recordOf t; ending = e }
+
+-- The lines that are left, after those that t stands for: the answer, the work area and the verdict buffer. "The whole-log call
+-- adds the line number, stops there, and keeps the record and work area of the lines before it, their verdict bytes, and the rest
+-- of the verdict buffer untouched".
+unfoldable pub linesFrom : List ℕ → Rule → Trace → List (List ℕ) → List ℕ → List ℕ → LogChecked × List ℕ × List ℕ
+linesFrom file x t [] w out = (ended t Read, workOf (t .runs) w, out)
+linesFrom file x t (l ∷ ls) w out =
+    byAnswer (apply t (eventOf l))
+    (λ u. linesFrom file x u ls w (set out (t .lines) (verdictByte (verdictOf u (formulaOf file x)))))
+    (λ c. (ended t (Refused c (t .lines + 1)), workOf (t .runs) w, out))
+
+-- "refused for 20 or the rule, it touches no buffer, names line 0 and answers the record of no lines"
+abbrev pub notRead : ℕ → LogChecked
+notRead n = ended noTrace (Refused n 0)
+
+-- 20 for either buffer, then the rule, then the lines
+unfoldable pub logOf : List ℕ → List ℕ → List ℕ → List ℕ → LogChecked × List ℕ × List ℕ
+logOf file log w out =
+    cond (ltb (length w) 16384 || ltb (length out) 256) (notRead 20, w, out)
+    (withRule (ruleOf file) (λ n. (notRead n, w, out)) (λ x. linesFrom file x noTrace (linesOf log) w out))

@@ -1,0 +1,29 @@
+-- The single-line call, repeated over lines: each call is handed the record and the work area that the call before it left, and its
+-- verdict byte goes to the place of its line. A refused line ends it.
+use Prim.Native.Nat.{ℕ, _+_}
+use mathlib.Core.Path.{_≡_}
+use mathlib.Core.List.{List, [], _∷_}
+use lib.ListN.{set}
+use Rattle.trace.specs.declared.Record.{Record}
+use Rattle.logic.specs.declared.Verdict.{Verdict}
+use Rattle.logic.specs.Verdict.{verdictByte}
+use Rattle.monitor.specs.declared.Outcome.the-variants as Outcome
+use Rattle.monitor.specs.declared.Checked.{Checked}
+use Rattle.monitor.specs.declared.Ending.{Ending}
+use Rattle.monitor.specs.declared.Ending.the-variants.{Read, Refused}
+use Rattle.monitor.specs.declared.LogChecked.{LogChecked}
+use Rattle.monitor.specs.Line.{judged, ChecksLine}
+
+abbrev pub Result : Type 0
+Result = LogChecked × List ℕ × List ℕ
+
+abbrev pub endedAt : Record → Ending → List ℕ → List ℕ → Result
+endedAt r e w out = (record { state = r; ending = e }, w, out)
+
+-- what the calls on the lines give, one after another, whatever answers c and v they have by their contract
+unfoldable pub Repeats : List ℕ → Record → List ℕ → List (List ℕ) → List ℕ → Result → Type 0
+Repeats file r w [] out z = z ≡ endedAt r Read w out
+Repeats file r w (l ∷ ls) out z =
+    (c : Checked) (v : List ℕ) → ChecksLine file r w l c v
+    → ((y : Verdict) → c .outcome ≡ judged y → Repeats file (c .state) v ls (set out (r .lines .0) (verdictByte y)) z)
+    × ((n : ℕ) → c .outcome ≡ Outcome.Refused n → z ≡ endedAt (c .state) (Refused n (r .lines .0 + 1)) v out)

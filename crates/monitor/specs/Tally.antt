@@ -1,0 +1,119 @@
+-- The single-line call with a tally: "lines, runs begun, finished, open, failing lines".
+use Prim.Native.Nat.{ℕ, _+_, _-_}
+use mathlib.Core.Path.{_≡_}
+use mathlib.Core.Bool.{Bool, true, false, _&&_, not, cond}
+use mathlib.Core.List.{List, [], _∷_}
+use mathlib.Core.Option.{Option, none, some}
+use lib.Dec.{eqb, leb, ltb}
+use lib.ListN.{length}
+use Rattle.lines.specs.Event.{Event, begins, ends, faulty}
+use Rattle.lines.specs.Line.{eventOf}
+use Rattle.trace.specs.declared.Run.{Run}
+use Rattle.trace.specs.declared.Record.{Record}
+use Rattle.trace.specs.Trace.{Trace, Answer, next, refused, apply, finish}
+use Rattle.trace.specs.Record.{recordOf}
+use Rattle.pairs.specs.Pairs.{workOf}
+use Rattle.rules.specs.declared.Rule.{Rule}
+use Rattle.rules.specs.declared.RuleRead.the-variants as RuleRead
+use Rattle.rules.specs.Rules.{ruleOf, formulaOf}
+use Rattle.logic.specs.declared.Verdict.{Verdict}
+use Rattle.logic.specs.declared.Verdict.the-variants as Verdict
+use Rattle.logic.specs.Verdict.{verdictOf}
+use Rattle.monitor.specs.declared.Outcome.the-variants.{Refused}
+use Rattle.monitor.specs.declared.Checked.{Checked}
+use Rattle.monitor.specs.declared.Tally.{Tally}
+use Rattle.monitor.specs.declared.Tallied.{Tallied}
+use Rattle.monitor.specs.Handed.{Left, HandedBy, Reached}
+use Rattle.monitor.specs.Line.{judged, withRule}
+
+-- how many runs are finished
+unfoldable pub finishedRuns : List Run → ℕ
+finishedRuns [] = 0
+finishedRuns (r ∷ rs) = cond (eqb (finish r) 0) 0 1 + finishedRuns rs
+
+-- The tally of the lines that t stands for, n of which failed. "Begun is the count of accepted begin lines, finished that of
+-- accepted end lines, and begun equals finished plus open."
+unfoldable pub tallyOf : Trace → ℕ → Tally
+tallyOf t n =
+    record {
+      lines = t .lines;
+      begun = length (t .runs);
+      finished = finishedRuns (t .runs);
+      running = length (t .runs) - finishedRuns (t .runs);
+      failing = n;
+    }
+
+-- how many lines are begin lines, and how many are end lines
+abbrev pub beginsRun : Event → ℕ
+beginsRun (begins i l) = 1
+beginsRun (ends i) = 0
+beginsRun (faulty c) = 0
+
+abbrev pub endsRun : Event → ℕ
+endsRun (begins i l) = 0
+endsRun (ends i) = 1
+endsRun (faulty c) = 0
+
+unfoldable pub beginLines : List (List ℕ) → ℕ
+beginLines [] = 0
+beginLines (l ∷ ls) = beginsRun (eventOf l) + beginLines ls
+
+unfoldable pub endLines : List (List ℕ) → ℕ
+endLines [] = 0
+endLines (l ∷ ls) = endsRun (eventOf l) + endLines ls
+
+-- "failing lines rise by 1 exactly at a line whose verdict fails"
+abbrev pub failed : Verdict → ℕ
+failed Verdict.Holds = 0
+failed Verdict.Fails = 1
+
+-- "24 a tally whose first four counts are not the record's, or whose failing lines exceed its lines"
+unfoldable pub counts? : Trace → Tally → Bool
+counts? t y =
+    eqb (y .lines) (t .lines)
+    && (eqb (y .begun) (length (t .runs))
+    && (eqb (y .finished) (finishedRuns (t .runs))
+    && (eqb (y .running) (length (t .runs) - finishedRuns (t .runs))
+    && leb (y .failing) (y .lines))))
+
+abbrev pub refusingWith : Record → Tally → ℕ → Tallied
+refusingWith r y c = record { state = r; tally = y; outcome = Refused c }
+
+-- the counts of a record, whether a tally has them, and the tally after a line
+abbrev pub CountsRecord : Record → ℕ → Tally → Type 0
+CountsRecord r n y = (t : Trace) → r ≡ recordOf t → y ≡ tallyOf t n
+
+abbrev pub MatchesRecord : Record → Tally → Bool → Type 0
+MatchesRecord r y b = (t : Trace) → r ≡ recordOf t → b ≡ counts? t y
+
+pub record CountsLine (c : Checked) (y : Tally) (a : Tallied) : Type 0 where
+  pub refuses : (n : ℕ) → c .outcome ≡ Refused n → a ≡ refusingWith (c .state) y n
+  pub takes : (t : Trace) (v : Verdict) → c .state ≡ recordOf t → c .outcome ≡ judged v
+      → a ≡ record { state = recordOf t; tally = tallyOf t (y .failing + failed v); outcome = judged v }
+
+unfoldable pub talliedAfter : List ℕ → Rule → Trace → Tally → List ℕ → Answer → Tallied × List ℕ
+talliedAfter file x t y w (next u) =
+    let v = verdictOf u (formulaOf file x) in
+    (record { state = recordOf u; tally = tallyOf u (y .failing + failed v); outcome = judged v }, workOf (u .runs) w)
+talliedAfter file x t y w (refused c) = (refusingWith (recordOf t) y c, w)
+
+-- 21, then 24, then the line
+unfoldable pub talliedState : List ℕ → Rule → Record → Tally → List ℕ → List ℕ → Option Trace → Tallied × List ℕ
+talliedState file x r y w line (some t) =
+    cond (counts? t y) (talliedAfter file x t y w (apply t (eventOf line))) (refusingWith (recordOf t) y 24, w)
+talliedState file x r y w line none = (refusingWith r y 21, w)
+
+-- 24, then the line, for every log that leaves the record and the work area
+abbrev pub AdvancesTallied : List ℕ → Rule → Record → Tally → List ℕ → List ℕ → Tallied → List ℕ → Type 0
+AdvancesTallied file x r y w line a w′ =
+    (log : List ℕ) (t : Trace) → Left log t r w → _≡_ {A = Tallied × List ℕ} (a, w′) (talliedState file x r y w line (some t))
+
+unfoldable pub talliedOf : List ℕ → Record → Tally → List ℕ → List ℕ → Option Trace → Tallied × List ℕ
+talliedOf file r y w line h =
+    cond (ltb (length w) 16384) (refusingWith r y 20, w)
+    (withRule (ruleOf file) (λ n. (refusingWith r y n, w)) (λ x. talliedState file x r y w line h))
+
+-- the contract, for every input
+pub record ChecksTallied (file : List ℕ) (r : Record) (y : Tally) (w line : List ℕ) (a : Tallied) (w′ : List ℕ) : Type 0 where
+  pub decided : Reached file w → (k : Option Trace) × HandedBy r w k
+  pub answer : (k : Option Trace) → (Reached file w → HandedBy r w k) → _≡_ {A = Tallied × List ℕ} (a, w′) (talliedOf file r y w line k)

@@ -1,6 +1,6 @@
 -- Which numbers a line can be refused with.
 use Prim.Native.Nat.{ℕ, _≤_}
-use mathlib.Core.Path.{_≡_, refl, sym, _∙_}
+use mathlib.Core.Path.{_≡_, refl}
 use mathlib.Core.Bool.{Bool, true, false, cond}
 use mathlib.Core.List.{List}
 use native.Mathlib.Omega.{arith}
@@ -12,7 +12,7 @@ use Rattle.labels.specs.Table.{withLabel}
 use Rattle.lines.specs.Event.{Event, begins, ends, faulty}
 use Rattle.lines.specs.Line.{eventOf}
 use Rattle.lines.proofs.Event.{event-refusal}
-use Rattle.trace.specs.Trace.{Trace, Answer, next, refused, begun?, endOf, begin, end, beginRun, endRun, apply}
+use Rattle.trace.specs.Trace.{Trace, next, refused, begun?, endOf, begin, end, beginRun, endRun, apply}
 
 abbrev InLines : ℕ → Type 0
 InLines c = (11 ≤ c) × (c ≤ 19)

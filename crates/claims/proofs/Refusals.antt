@@ -1,9 +1,9 @@
 -- Demand 1: each refusal is on the list and keeps what earlier lines had settled.
-use Prim.Native.Nat.{ℕ, suc, _+_, _≤_, _<_}
-use mathlib.Core.Path.{_≡_, refl, ap, sym, _∙_, subst}
+use Prim.Native.Nat.{ℕ, _+_, _≤_}
+use mathlib.Core.Path.{_≡_, refl, ap, sym, _∙_}
 use mathlib.Core.List.{List, [], _∷_, _++_}
 use mathlib.Core.Option.{Option, none, some}
-use mathlib.Core.Bool.{Bool, true, false, cond, _||_}
+use mathlib.Core.Bool.{false, _||_}
 use native.Mathlib.Omega.{arith}
 use lib.Dec.{ltb}
 use lib.ListN.{length, set}
@@ -12,23 +12,18 @@ use Rattle.lists.proofs.Cases.{either-lt, either-bool}
 use Rattle.lines.specs.Line.{eventOf}
 use Rattle.lines.specs.Log.{linesOf}
 use Rattle.trace.specs.declared.Record.{Record}
-use Rattle.trace.specs.Trace.{Trace, Answer, next, refused, noTrace, apply, applyTo, step, steps, Accepted}
+use Rattle.trace.specs.Trace.{Trace, Answer, next, refused, noTrace, apply, applyTo, step, steps}
 use Rattle.trace.specs.Record.{recordOf}
 use Rattle.trace.proofs.Taken.{step-lines}
-use Rattle.trace.proofs.Grown.{taken-grows}
 use Rattle.pairs.specs.Pairs.{workOf}
-use Rattle.pairs.proofs.Accepted.{pair-byte-names-the-order}
-use Rattle.relations.proofs.Pairs.{pair-byte-noted}
-use Rattle.relations.proofs.Demand.{demand-3}
 use Rattle.rules.specs.declared.Rule.{Rule}
 use Rattle.rules.specs.declared.RuleRead.{RuleRead}
 use Rattle.rules.specs.declared.RuleRead.the-variants as RuleRead
-use Rattle.rules.specs.Rules.{ruleOf, formulaOf, Taken}
+use Rattle.rules.specs.Rules.{ruleOf, formulaOf}
 use Rattle.rules.proofs.Rules.{reads-rule}
 use Rattle.logic.specs.declared.Verdict.{Verdict}
 use Rattle.logic.specs.declared.Verdict.the-variants as Verdict
-use Rattle.logic.specs.Verdict.{verdictByte, verdictOf, Says}
-use Rattle.monitor.specs.declared.Outcome.{Outcome}
+use Rattle.logic.specs.Verdict.{verdictByte, verdictOf}
 use Rattle.monitor.specs.declared.Outcome.the-variants.{Holds, Fails, Refused}
 use Rattle.monitor.specs.declared.Checked.{Checked}
 use Rattle.monitor.specs.declared.Tally.{Tally}
@@ -36,12 +31,12 @@ use Rattle.monitor.specs.declared.Tallied.{Tallied}
 use Rattle.monitor.specs.declared.Ending.{Ending}
 use Rattle.monitor.specs.declared.Ending.the-variants as Ending
 use Rattle.monitor.specs.declared.LogChecked.{LogChecked}
-use Rattle.monitor.specs.Handed.{Left, HandedBy, Reached}
-use Rattle.monitor.specs.Line.{judged, refusing, lineAfter, advanceOf, stateOf, withRule, lineOf, TakenLine}
+use Rattle.monitor.specs.Handed.{HandedBy, Reached}
+use Rattle.monitor.specs.Line.{judged, refusing, lineAfter, advanceOf, stateOf, withRule, lineOf}
 use Rattle.monitor.specs.Tally.{refusingWith, counts?, talliedAfter, talliedState, talliedOf}
-use Rattle.monitor.specs.Log.{byAnswer, ended, notRead, linesFrom, logOf}
+use Rattle.monitor.specs.Log.{ended, notRead, linesFrom, logOf}
 use Rattle.monitor.proofs.Lines.{from-none, from-taken, from-refused}
-use Rattle.claims.specs.Demands.{Listed, LogRefused, unread, stopped, Demand1, Settled, Demand2, Demand3}
+use Rattle.claims.specs.Demands.{Listed, LogRefused, unread, stopped, Demand1}
 use Rattle.claims.proofs.Numbers.{line-number}
 
 -- ── numbers ──

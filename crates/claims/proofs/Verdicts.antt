@@ -7,11 +7,9 @@ use native.Mathlib.Omega.{arith}
 use lib.ListN.{length, getD, take}
 use borrow.Author.Tests.{lt-ltb, le-ltb}
 use Rattle.lists.proofs.Cases.{either-lt}
-use Rattle.lines.specs.Line.{eventOf}
 use Rattle.lines.specs.Log.{linesOf}
 use Rattle.trace.specs.declared.Record.{Record}
-use Rattle.trace.specs.Trace.{Trace, Answer, next, refused, noTrace, apply, read, steps, Accepted}
-use Rattle.trace.specs.Record.{recordOf}
+use Rattle.trace.specs.Trace.{Trace, Answer, next, noTrace, read, steps, Accepted}
 use Rattle.trace.proofs.Taken.{not-taken}
 use Rattle.trace.proofs.Grown.{step-is, no-bytes}
 use Rattle.trace.proofs.Bounds.{accepted-bounded}
@@ -24,7 +22,6 @@ use Rattle.rules.specs.Rules.{ruleOf, formulaOf, Taken}
 use Rattle.rules.proofs.Rules.{reads-rule}
 use Rattle.logic.specs.declared.Verdict.{Verdict}
 use Rattle.logic.specs.Verdict.{verdictByte, verdictOf}
-use Rattle.monitor.specs.declared.Outcome.the-variants.{Refused}
 use Rattle.monitor.specs.declared.Ending.the-variants as Ending
 use Rattle.monitor.specs.Handed.{Left}
 use Rattle.monitor.specs.Line.{judged, stateOf, lineOf, TakenLine}

@@ -3,14 +3,13 @@
 -- (`monitor::check_log`), `composeOf` (`relations::compose`). That a call ends and does nothing undefined is proved of every function.
 use Prim.Native.Nat.{ℕ, suc, _+_, _≤_, _<_}
 use mathlib.Core.Path.{_≡_}
-use mathlib.Core.List.{List, [], _∷_, _++_}
+use mathlib.Core.List.{List, _∷_, _++_}
 use mathlib.Core.Option.{Option, some}
 use lib.ListN.{length, getD, take}
 use Rattle.lines.specs.Line.{eventOf}
 use Rattle.lines.specs.Log.{linesOf}
 use Rattle.trace.specs.declared.Record.{Record}
 use Rattle.trace.specs.Trace.{Trace, next, refused, noTrace, apply, steps, runAt, Accepted}
-use Rattle.trace.specs.Record.{recordOf}
 use Rattle.pairs.specs.Pairs.{pairByte, workOf}
 use Rattle.pairs.specs.Word.{nameOf, wordOf}
 use Rattle.relations.specs.Pairs.{Noted}

@@ -1,7 +1,7 @@
 -- What the class is taught. An open run changes no verdict: "some" ranges over finished runs, and whatever a variable stands for
 -- inside it has the same label and the same lines before and after a begin line. Two runs without labels are never the same. And
 -- a verdict is not for good: each later line can change it.
-use Prim.Native.Nat.{ℕ, zero, suc, _+_, _-_, _<_, _≤_}
+use Prim.Native.Nat.{ℕ, zero, suc, _+_, _-_, _<_}
 use mathlib.Core.Path.{_≡_, refl, sym, ap, ap₂, subst, _∙_}
 use mathlib.Core.Logic.{_↔_}
 use mathlib.Core.Bool.{Bool, true, false, not, _&&_, cond}
@@ -13,9 +13,9 @@ use borrow.Author.Tests.{eq-eqb, ltb-true}
 use Rattle.lists.specs.Lists.{bytes, pad, same?}
 use Rattle.lists.proofs.Cases.{either-eq, either-lt, either-bool}
 use Rattle.labels.specs.declared.Label.{Label}
-use Rattle.labels.specs.Label.{labelOf, text, absent, sameLabel}
+use Rattle.labels.specs.Label.{labelOf, text, sameLabel}
 use Rattle.labels.specs.Table.{numberOf, indexOf, withLabel, labelAt}
-use Rattle.labels.proofs.Table.{with-few, with-new, with-none}
+use Rattle.labels.proofs.Table.{label-kept}
 use Rattle.lines.specs.Event.{begins}
 use Rattle.lines.specs.Line.{eventOf}
 use Rattle.trace.specs.declared.Run.{Run}
@@ -41,15 +41,6 @@ open-finish [] r h zero = sym h
 open-finish [] r h (suc j) = refl
 open-finish (q ∷ rs) r h zero = refl
 open-finish (q ∷ rs) r h (suc j) = open-finish rs r h j
-
--- a label keeps its number
-label-kept : (ls : List Label) (x : Label) (n : ℕ) → (n ≡ 0 → ⊥) → n ≤ length ls → labelAt ls n ≡ labelAt (withLabel ls x) n
-label-kept ls x n d h =
-    either-eq (x .length) 0
-    (λ e. ap (λ (q : List Label). labelAt q n) (sym (with-none ls x e)))
-    (λ m. either-lt (indexOf ls x) (length ls)
-    (λ k. ap (λ (q : List Label). labelAt q n) (sym (with-few ls x k m)))
-    (λ k. sym (ap (λ (q : List Label). labelAt q n) (with-new ls x k m) ∙ List·getD-append ls (x ∷ []) absent (n - 1) (omega (arith, d)))))
 
 module _ (t : Trace) (o : Orderly t) (i : ℕ) (x : Label) where
   abbrev u : Trace
@@ -78,7 +69,7 @@ module _ (t : Trace) (o : Orderly t) (i : ℕ) (x : Label) where
       subst (λ (k : ℕ). (not (eqb (numberAt t j) 0) && P (text (labelAt (t .labels) (numberAt t j)))) ≡ (not (eqb k 0) && P (text (labelAt (u .labels) k)))) n
       (either-eq (numberAt t j) 0
       (λ z. rw (eq-eqb (numberAt t j) 0 z) refl)
-      (λ d. ap (λ (q : Label). not (eqb (numberAt t j) 0) && P (text q)) (label-kept (t .labels) x (numberAt t j) d low)))
+      (λ d. ap (λ (q : Label). not (eqb (numberAt t j) 0) && P (text q)) (sym (label-kept (t .labels) x (numberAt t j) d low))))
 
   label-same : (j : ℕ) (l : List ℕ) → finished? t j ≡ true → hasLabel? t j l ≡ hasLabel? u j l
   label-same j l e = text-same j e (λ s. same? s l)

@@ -2,6 +2,7 @@ pub mod Decides
 pub mod Closed
 pub mod PairSays
 pub mod LabelSays
+pub mod Labelled
 pub mod Bytes
 pub mod Nodes
 pub mod Judged

@@ -32,6 +32,7 @@ use Rattle.monitor.proofs.Known.{standing-fits}
 use Rattle.monitor.proofs.LineMeans.{by-line}
 use Rattle.monitor.proofs.LineCall.{with-refused, with-taken, no-rule, standing-of, not-reached}
 use Rattle.monitor.proofs.Tallies.{failing-most}
+use Rattle.monitor.proofs.TallyLaws.{checks-tallied}
 
 -- ── on what accepted lines leave ──
 module _ (r : Record) (w : List ℕ) (s : Standing r w) where
@@ -73,17 +74,16 @@ module _ (file : List ℕ) (r : Record) (y : Tally) (w line : List ℕ) (a : Tal
 
   pub tallied-short : length w < 16384 → a ≡ refusingWith r y 20 → ChecksTallied file r y w line a w
   unfolding talliedOf
-  tallied-short h e = record { decided = not-reached file w h; answer = λ k f. simp (lt-ltb (length w) 16384 h) (same 20 e) }
+  tallied-short h e = checks-tallied file r y w line a w (λ k f. simp (lt-ltb (length w) 16384 h) (same 20 e)) (not-reached file w h)
 
   module _ (long : 16384 ≤ length w) (q : RuleRead) (rd : ReadsRule file q) where
     pub tallied-unruled : (n : ℕ) → q ≡ RuleRead.Refused n → a ≡ refusingWith r y n → ChecksTallied file r y w line a w
     unfolding talliedOf
     tallied-unruled n e s =
         let p : ruleOf file ≡ RuleRead.Refused n = sym (rd .answer) ∙ e in
-        record {
-          decided = λ k. no-rule (ruleOf file) n (k .rule) p (k .taken);
-          answer = λ k f. simp (le-ltb (length w) 16384 long) (same n s ∙ sym (with-refused (ruleOf file) n _ _ p));
-        }
+        checks-tallied file r y w line a w
+        (λ k f. simp (le-ltb (length w) 16384 long) (same n s ∙ sym (with-refused (ruleOf file) n _ _ p)))
+        (λ k. no-rule (ruleOf file) n (k .rule) p (k .taken))
 
     module _ (x : Rule) (e : q ≡ RuleRead.Rule x) (b : Bool) (k : Tells b (Standing r w)) where
       rule-here : ruleOf file ≡ RuleRead.Rule x
@@ -100,7 +100,7 @@ module _ (file : List ℕ) (r : Record) (y : Tally) (w line : List ℕ) (a : Tal
       unfolding talliedState
       tallied-unknown d s =
           let never : Standing r w → ⊥ = k .no (not-true b d) in
-          record { decided = λ _. (none, λ log t l. never (standing-of log t r w l)); answer = λ h f. by-handed h (f reached) never }
+          checks-tallied file r y w line a w (λ h f. by-handed h (f reached) never) (λ _. (none, λ log t l. never (standing-of log t r w l)))
         where
           by-handed : (h : Option Trace) → HandedBy r w h → (Standing r w → ⊥) → _≡_ {A = Out} (a, w) (talliedOf file r y w line h)
           by-handed none f never = same 21 s ∙ sym (tallied-state none)
@@ -109,7 +109,7 @@ module _ (file : List ℕ) (r : Record) (y : Tally) (w line : List ℕ) (a : Tal
       pub tallied-known : not b ≡ false → (v : List ℕ) → AdvancesTallied file x r y w line a v → ChecksTallied file r y w line a v
       tallied-known d v g =
           let s : Standing r w = k .yes (not-false b d) in
-          record { decided = λ _. (some (s .trace), (s .log, s .left)); answer = λ h f. by-handed h (f reached) s }
+          checks-tallied file r y w line a v (λ h f. by-handed h (f reached) s) (λ _. (some (s .trace), (s .log, s .left)))
         where
           by-handed : (h : Option Trace) → HandedBy r w h → Standing r w → _≡_ {A = Out} (a, v) (talliedOf file r y w line h)
           by-handed none f s = absurd (f (s .log) (s .trace) (s .left))

@@ -3,7 +3,7 @@
 use Prim.Native.Nat.{ℕ, _+_, _-_, _≤_}
 use mathlib.Core.Path.{_≡_, refl, ap, sym, _∙_, subst}
 use mathlib.Core.Bool.{Bool, true, false, cond}
-use mathlib.Core.List.{List, [], _∷_}
+use mathlib.Core.List.{List, [], _∷_, _++_}
 use mathlib.Core.Option.{Option, none, some}
 use native.Mathlib.Omega.{arith}
 use lib.Dec.{ltb}
@@ -19,19 +19,24 @@ use Rattle.trace.specs.Trace.{Trace, Answer, next, refused, noTrace, apply, Acc
 use Rattle.trace.specs.Record.{recordOf}
 use Rattle.trace.proofs.Taken.{event-taken, step-lines}
 use Rattle.trace.proofs.Finished.{finishedIn, Counts, begin-counts, end-counts}
+use Rattle.trace.proofs.Grown.{taken-grows}
 use Rattle.trace.proofs.Induction.{accepted-keeps}
 use Rattle.rules.specs.declared.Rule.{Rule}
 use Rattle.rules.specs.declared.RuleRead.{RuleRead}
 use Rattle.rules.specs.declared.RuleRead.the-variants as RuleRead
-use Rattle.rules.specs.Rules.{ruleOf, Taken}
+use Rattle.rules.specs.Rules.{ruleOf, formulaOf}
+use Rattle.rules.proofs.Rules.{reads-rule}
+use Rattle.logic.specs.declared.Verdict.{Verdict}
+use Rattle.logic.specs.Verdict.{verdictOf}
+use Rattle.monitor.specs.declared.Outcome.the-variants.{Refused}
 use Rattle.monitor.specs.declared.Checked.{Checked}
 use Rattle.monitor.specs.declared.Tally.{Tally}
 use Rattle.monitor.specs.declared.Tallied.{Tallied}
-use Rattle.monitor.specs.Handed.{Left}
-use Rattle.monitor.specs.Line.{refusing, lineAfter, stateOf, withRule, lineOf, LineMeans}
-use Rattle.monitor.specs.Tally.{finishedRuns, tallyOf, beginsRun, endsRun, beginLines, endLines, counts?, refusingWith, talliedAfter, talliedState, talliedOf, ChecksTallied}
+use Rattle.monitor.specs.Handed.{Left, HandedBy, Reached}
+use Rattle.monitor.specs.Line.{judged, refusing, lineAfter, stateOf, withRule, lineOf, LineMeans}
+use Rattle.monitor.specs.Tally.{finishedRuns, tallyOf, failed, TallyCounts, untallied, TalliedMeans, beginsRun, endsRun, beginLines, endLines, counts?, refusingWith, talliedAfter, talliedState, talliedOf, ChecksTallied}
 use Rattle.monitor.proofs.Known.{pairs-long}
-use Rattle.monitor.proofs.LineMeans.{line-means}
+use Rattle.monitor.proofs.LineMeans.{judged-same, judged-taken, line-means}
 use Rattle.monitor.proofs.LineCall.{with-taken}
 use Rattle.monitor.proofs.Tallies.{finished-same, finished-most}
 
@@ -48,12 +53,6 @@ taken-counts l t u =
     let c : Counts t u 0 1 = subst (λ (v : Trace). Counts t v 0 1) (sym (b .is)) (end-counts t i (b .old) (b .running)) in
     (c .runs, omega (arith, finished-same (t .runs), finished-same (u .runs), c .finished)))
     (eventOf l)
-
-pub record TallyCounts (log : List ℕ) (y : Tally) : Type 0 where
-  pub lines : y .lines ≡ length (linesOf log)
-  pub begun : y .begun ≡ beginLines (linesOf log)
-  pub finished : y .finished ≡ endLines (linesOf log)
-  pub balance : y .begun ≡ y .finished + y .running
 
 -- THE LAW: "Begun is the count of accepted begin lines, finished that of accepted end lines, and begun equals finished plus open."
 pub accepted-tally : (log : List ℕ) (t : Trace) (n : ℕ) → Accepted log t → TallyCounts log (tallyOf t n)
@@ -72,31 +71,64 @@ accepted-tally log t n a =
     }
 
 -- ── the call with a tally is the single-line call ──
--- the answer without its tally
-abbrev pub untallied : Tallied × List ℕ → Checked × List ℕ
-untallied z = (record { state = z .0 .state; outcome = z .0 .outcome }, z .1)
+abbrev line-part : Tallied × List ℕ → Checked × List ℕ
+line-part z = (untallied (z .0), z .1)
 
 module _ (file : List ℕ) (r : Record) (y : Tally) (w line : List ℕ) where
-  pub tallied-is-line : (t : Trace) → counts? t y ≡ true → untallied (talliedOf file r y w line (some t)) ≡ lineOf file r w line (some t)
+  pub tallied-is-line : (t : Trace) → counts? t y ≡ true → line-part (talliedOf file r y w line (some t)) ≡ lineOf file r w line (some t)
   unfolding talliedOf lineOf withRule talliedState stateOf talliedAfter lineAfter
   tallied-is-line t p = either-bool (ltb (length w) 16384) (λ e. simp e) (λ e. simp e (by-rule (ruleOf file)))
     where
-      by-answer : (x : Rule) (a : Answer) → untallied (talliedAfter file x t y w a) ≡ lineAfter file x t w a
+      by-answer : (x : Rule) (a : Answer) → line-part (talliedAfter file x t y w a) ≡ lineAfter file x t w a
       by-answer x (next u) = refl
       by-answer x (refused c) = refl
 
-      by-rule : (q : RuleRead) → untallied (withRule q (λ n. (refusingWith r y n, w)) (λ x. talliedState file x r y w line (some t)))
+      by-rule : (q : RuleRead) → line-part (withRule q (λ n. (refusingWith r y n, w)) (λ x. talliedState file x r y w line (some t)))
           ≡ withRule q (λ n. (refusing r n, w)) (λ x. stateOf file x r w line (some t))
       by-rule (RuleRead.Rule x) = simp p (by-answer x (apply t (eventOf line)))
       by-rule (RuleRead.Refused n) = refl
 
   -- so its answer means the same
-  pub tallied-means : (a : Tallied) (v : List ℕ) → ChecksTallied file r y w line a v → (x : Rule) → ruleOf file ≡ RuleRead.Rule x → Taken file x
-      → (log : List ℕ) (t : Trace) → Left log t r w → counts? t y ≡ true → LineMeans file x log t r w line (record { state = a .state; outcome = a .outcome }) v
-  unfolding lineOf stateOf
-  tallied-means a v k x rule taken log t l p =
-      let long : 16384 ≤ length w = pairs-long (t .runs) w w (l .pairs) in
-      let e : _≡_ {A = Checked × List ℕ} (record { state = a .state; outcome = a .outcome }, v) (lineOf file r w line (some t)) =
-      ap untallied (k .answer (some t) (λ _. (log, l))) ∙ tallied-is-line t p in
-      let s : lineOf file r w line (some t) ≡ stateOf file x r w line (some t) = simp (le-ltb (length w) 16384 long) (with-taken (ruleOf file) x _ _ rule) in
-      line-means file x t w line (record { state = a .state; outcome = a .outcome }) v (e ∙ s) taken log r (l .accepted) (l .encoded)
+  module _ (a : Tallied) (v : List ℕ) (answer : (k : Option Trace) → (Reached file w → HandedBy r w k) → _≡_ {A = Tallied × List ℕ} (a, v) (talliedOf file r y w line k)) where
+    line-part-means : (x : Rule) → ruleOf file ≡ RuleRead.Rule x → (log : List ℕ) (t : Trace) → Left log t r w → counts? t y ≡ true → LineMeans file x log t r w line (untallied a) v
+    unfolding lineOf stateOf
+    line-part-means x rule log t l p =
+        let long : 16384 ≤ length w = pairs-long (t .runs) w w (l .pairs) in
+        let e : _≡_ {A = Checked × List ℕ} (untallied a, v) (lineOf file r w line (some t)) = ap line-part (answer (some t) (λ _. (log, l))) ∙ tallied-is-line t p in
+        let s : lineOf file r w line (some t) ≡ stateOf file x r w line (some t) = simp (le-ltb (length w) 16384 long) (with-taken (ruleOf file) x _ _ rule) in
+        line-means file x t w line (untallied a) v (e ∙ s) (reads-rule file (RuleRead.Rule x) (sym rule) .taken x refl) log r (l .accepted) (l .encoded)
+
+    answer-is : (x : Rule) → ruleOf file ≡ RuleRead.Rule x → (log : List ℕ) (t : Trace) → Left log t r w → counts? t y ≡ true
+        → _≡_ {A = Tallied × List ℕ} (a, v) (talliedAfter file x t y w (apply t (eventOf line)))
+    unfolding talliedOf talliedState
+    answer-is x rule log t l p =
+        let long : 16384 ≤ length w = pairs-long (t .runs) w w (l .pairs) in
+        let s : talliedOf file r y w line (some t) ≡ talliedState file x r y w line (some t) = simp (le-ltb (length w) 16384 long) (with-taken (ruleOf file) x _ _ rule) in
+        answer (some t) (λ _. (log, l)) ∙ (s ∙ simp p)
+
+    pub tallied-means : (x : Rule) → ruleOf file ≡ RuleRead.Rule x → (log : List ℕ) (t : Trace) → Left log t r w → counts? t y ≡ true → TalliedMeans file x log t r y w line a v
+    unfolding talliedAfter tallyOf
+    tallied-means x rule log t l p = go (apply t (eventOf line)) refl (answer-is x rule log t l p)
+      where
+        go : (n : Answer) → apply t (eventOf line) ≡ n → _≡_ {A = Tallied × List ℕ} (a, v) (talliedAfter file x t y w n) → TalliedMeans file x log t r y w line a v
+        go (next u) q e =
+            let f : Verdict = verdictOf u (formulaOf file x) in
+            let o : a .outcome ≡ judged f = ap (λ (z : Tallied × List ℕ). z .0 .outcome) e in
+            let c : a .tally ≡ tallyOf u (y .failing + failed f) = ap (λ (z : Tallied × List ℕ). z .0 .tally) e in
+            record {
+              single = line-part-means x rule log t l p;
+              counts = λ d m. subst (TallyCounts (log ++ line)) (sym c) (accepted-tally (log ++ line) u (y .failing + failed f) (taken-grows log t (l .accepted) line u q));
+              failing = λ d m. ap (λ (z : Tally). z .failing) c ∙ ap (λ (z : Verdict). y .failing + failed z) (judged-same f d (sym o ∙ m));
+              kept = λ d m. judged-taken f d (sym o ∙ m);
+            }
+        go (refused d) q e =
+            let o : a .outcome ≡ Refused d = ap (λ (z : Tallied × List ℕ). z .0 .outcome) e in
+            record {
+              single = line-part-means x rule log t l p;
+              counts = λ b m. judged-taken b d (sym m ∙ o);
+              failing = λ b m. judged-taken b d (sym m ∙ o);
+              kept = λ b m. ap (λ (z : Tallied × List ℕ). z .0 .tally) e;
+            }
+
+    pub checks-tallied : (Reached file w → (k : Option Trace) × HandedBy r w k) → ChecksTallied file r y w line a v
+    checks-tallied d = record { decided = d; answer = answer; meaning = tallied-means }

@@ -2,12 +2,13 @@
 use Prim.Native.Nat.{ℕ, _+_, _-_}
 use mathlib.Core.Path.{_≡_}
 use mathlib.Core.Bool.{Bool, true, false, _&&_, not, cond}
-use mathlib.Core.List.{List, [], _∷_}
+use mathlib.Core.List.{List, [], _∷_, _++_}
 use mathlib.Core.Option.{Option, none, some}
 use lib.Dec.{eqb, leb, ltb}
 use lib.ListN.{length}
 use Rattle.lines.specs.Event.{Event, begins, ends, faulty}
 use Rattle.lines.specs.Line.{eventOf}
+use Rattle.lines.specs.Log.{linesOf}
 use Rattle.trace.specs.declared.Run.{Run}
 use Rattle.trace.specs.declared.Record.{Record}
 use Rattle.trace.specs.Trace.{Trace, Answer, next, refused, apply, finish}
@@ -24,7 +25,7 @@ use Rattle.monitor.specs.declared.Checked.{Checked}
 use Rattle.monitor.specs.declared.Tally.{Tally}
 use Rattle.monitor.specs.declared.Tallied.{Tallied}
 use Rattle.monitor.specs.Handed.{Left, HandedBy, Reached}
-use Rattle.monitor.specs.Line.{judged, withRule}
+use Rattle.monitor.specs.Line.{judged, withRule, LineMeans}
 
 -- how many runs are finished
 unfoldable pub finishedRuns : List Run → ℕ
@@ -113,7 +114,28 @@ talliedOf file r y w line h =
     cond (ltb (length w) 16384) (refusingWith r y 20, w)
     (withRule (ruleOf file) (λ n. (refusingWith r y n, w)) (λ x. talliedState file x r y w line h))
 
+-- "Begun is the count of accepted begin lines, finished that of accepted end lines, and begun equals finished plus open."
+pub record TallyCounts (log : List ℕ) (y : Tally) : Type 0 where
+  pub lines : y .lines ≡ length (linesOf log)
+  pub begun : y .begun ≡ beginLines (linesOf log)
+  pub finished : y .finished ≡ endLines (linesOf log)
+  pub balance : y .begun ≡ y .finished + y .running
+
+-- the answer without its tally
+abbrev pub untallied : Tallied → Checked
+untallied a = record { state = a .state; outcome = a .outcome }
+
+-- what the answer says of the log, for a tally that has the record's counts: what that of the single-line call says; the counts are
+-- those of the log with the line, and failing lines rise by 1 exactly if the verdict fails; a refused line leaves the tally
+pub record TalliedMeans (file : List ℕ) (x : Rule) (log : List ℕ) (t : Trace) (r : Record) (y : Tally) (w line : List ℕ) (a : Tallied) (w′ : List ℕ) : Type 0 where
+  pub single : LineMeans file x log t r w line (untallied a) w′
+  pub counts : (v : Verdict) → a .outcome ≡ judged v → TallyCounts (log ++ line) (a .tally)
+  pub failing : (v : Verdict) → a .outcome ≡ judged v → a .tally .failing ≡ y .failing + failed v
+  pub kept : (c : ℕ) → a .outcome ≡ Refused c → a .tally ≡ y
+
 -- the contract, for every input
 pub record ChecksTallied (file : List ℕ) (r : Record) (y : Tally) (w line : List ℕ) (a : Tallied) (w′ : List ℕ) : Type 0 where
   pub decided : Reached file w → (k : Option Trace) × HandedBy r w k
   pub answer : (k : Option Trace) → (Reached file w → HandedBy r w k) → _≡_ {A = Tallied × List ℕ} (a, w′) (talliedOf file r y w line k)
+  pub meaning : (x : Rule) → ruleOf file ≡ RuleRead.Rule x → (log : List ℕ) (t : Trace) → Left log t r w → counts? t y ≡ true
+      → TalliedMeans file x log t r y w line a w′

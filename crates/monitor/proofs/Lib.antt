@@ -9,8 +9,9 @@ pub mod Turns
 pub mod Tallies
 pub mod Reading
 pub mod TallyCall
-pub mod LogCall
 pub mod Repeated
 pub mod Prefixes
+pub mod LogMeans
+pub mod LogCall
 pub mod Cut
 pub mod TallyLaws

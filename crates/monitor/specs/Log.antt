@@ -1,19 +1,20 @@
 -- The whole-log call: "One call takes a rule, a whole log, a work area and a verdict buffer of at least 256 bytes, a byte a line,
 -- 1 holds, 0 fails, the rest untouched; it answers the record. It starts a record itself."
-use Prim.Native.Nat.{ℕ, _+_}
+use Prim.Native.Nat.{ℕ, suc, _+_, _<_, _≤_}
 use mathlib.Core.Path.{_≡_}
 use mathlib.Core.Bool.{cond, _||_}
-use mathlib.Core.List.{List, [], _∷_}
+use mathlib.Core.List.{List, [], _∷_, _++_}
 use lib.Dec.{ltb}
-use lib.ListN.{length, set}
+use lib.ListN.{length, getD, set, take}
 use Rattle.lines.specs.Line.{eventOf}
 use Rattle.lines.specs.Log.{linesOf}
-use Rattle.trace.specs.Trace.{Trace, Answer, next, refused, noTrace, apply}
+use Rattle.trace.specs.Trace.{Trace, Answer, next, refused, noTrace, apply, steps, Accepted}
 use Rattle.trace.specs.Record.{recordOf}
 use Rattle.pairs.specs.Pairs.{workOf}
 use Rattle.rules.specs.declared.Rule.{Rule}
+use Rattle.rules.specs.declared.RuleRead.the-variants as RuleRead
 use Rattle.rules.specs.Rules.{ruleOf, formulaOf}
-use Rattle.logic.specs.Verdict.{verdictByte, verdictOf}
+use Rattle.logic.specs.Verdict.{verdictByte, verdictOf, Says}
 use Rattle.monitor.specs.declared.Ending.{Ending}
 use Rattle.monitor.specs.declared.Ending.the-variants.{Read, Refused}
 use Rattle.monitor.specs.declared.LogChecked.{LogChecked}
@@ -47,3 +48,43 @@ unfoldable pub logOf : List ℕ → List ℕ → List ℕ → List ℕ → LogCh
 logOf file log w out =
     cond (ltb (length w) 16384 || ltb (length out) 256) (notRead 20, w, out)
     (withRule (ruleOf file) (λ n. (notRead n, w, out)) (λ x. linesFrom file x noTrace (linesOf log) w out))
+
+-- ── what the answer says of the log ──
+-- every line is taken: the log is accepted, and its record and pair bytes are answered
+pub record LogTaken (log w : List ℕ) (a : LogChecked) (w′ : List ℕ) : Type 0 where
+  pub trace : Trace
+  pub accepted : Accepted log trace
+  pub state : a .state ≡ recordOf trace
+  pub pairs : w′ ≡ workOf (trace .runs) w
+
+-- line n is refused with c, by its own bytes or by the lines before it, and these leave what is answered
+pub record LogStopped (log w : List ℕ) (c n : ℕ) (a : LogChecked) (w′ : List ℕ) : Type 0 where
+  pub before : List (List ℕ)
+  pub last : List ℕ
+  pub after : List (List ℕ)
+  pub trace : Trace
+  pub lines : linesOf log ≡ before ++ (last ∷ after)
+  pub leaves : steps (next noTrace) before ≡ next trace
+  pub number : n ≡ length before + 1
+  pub why : apply trace (eventOf last) ≡ refused c
+  pub state : a .state ≡ recordOf trace
+  pub pairs : w′ ≡ workOf (trace .runs) w
+
+-- the verdict byte b of a line, where the lines up to it leave u
+pub record LineByte (file : List ℕ) (x : Rule) (u : Trace) (b : ℕ) : Type 0 where
+  pub byte : b ≡ verdictByte (verdictOf u (formulaOf file x))
+  pub verdict : Says u (formulaOf file x) (verdictOf u (formulaOf file x))
+
+pub record LogMeans (file : List ℕ) (x : Rule) (log w out : List ℕ) (a : LogChecked) (w′ out′ : List ℕ) : Type 0 where
+  pub whole : a .ending ≡ Read → LogTaken log w a w′
+  pub stops : (c n : ℕ) → a .ending ≡ Refused c n → LogStopped log w c n a w′
+  -- a byte a line, of every line that is taken
+  pub verdicts : (k : ℕ) (u : Trace) → k < length (linesOf log) → steps (next noTrace) (take (suc k) (linesOf log)) ≡ next u → LineByte file x u (getD out′ k 0)
+  -- "the rest untouched"
+  pub rest : (k : ℕ) → a .state .lines .0 ≤ k → getD out′ k 0 ≡ getD out k 0
+  pub size : length out′ ≡ length out
+
+-- the contract, for every input; and what the answer means where the rule is taken and the buffers are long enough
+pub record ChecksLog (file log w out : List ℕ) (a : LogChecked) (w′ out′ : List ℕ) : Type 0 where
+  pub answer : _≡_ {A = LogChecked × List ℕ × List ℕ} (a, w′, out′) (logOf file log w out)
+  pub meaning : (x : Rule) → ruleOf file ≡ RuleRead.Rule x → 16384 ≤ length w → 256 ≤ length out → LogMeans file x log w out a w′ out′

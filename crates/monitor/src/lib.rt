@@ -5,7 +5,7 @@
 ghost use mathlib.Core.Path.{_≡_};
 ghost use Rattle.monitor.specs.Line.{ChecksLine};
 ghost use Rattle.monitor.specs.Tally.{ChecksTallied};
-ghost use Rattle.monitor.specs.Log.{notRead, logOf};
+ghost use Rattle.monitor.specs.Log.{notRead, ChecksLog};
 use rules::RuleRead;
 use trace::Record;
 
@@ -134,7 +134,7 @@ fn not_read(n: u8) -> LogChecked
 
 // A whole log with a rule file: the record of the lines that are taken, their verdict bytes, and how the reading ended.
 pub fn check_log(file: &[u8], log: &[u8], work: &mut [u8], verdicts: &mut [u8]) -> LogChecked
-    ensures { λ a. ⌜ (a, now (work .exit), now (verdicts .exit)) ≡ logOf (now (file .entry)) (now (log .entry)) (now (work .entry)) (now (verdicts .entry)) ⌝ }
+    ensures { λ a. ⌜ ChecksLog (now (file .entry)) (now (log .entry)) (now (work .entry)) (now (verdicts .entry)) a (now (work .exit)) (now (verdicts .exit)) ⌝ }
 {
     if work.len() < PAIR_BYTES {
         return not_read(20);

@@ -31,9 +31,10 @@ use Rattle.monitor.specs.Repeated.{Result}
 use Rattle.monitor.proofs.LineMeans.{judged-taken, verdict-says, line-means}
 use Rattle.monitor.proofs.LineCall.{with-taken}
 use Rattle.monitor.proofs.Lines.{by-answer, from-none, from-taken}
-use Rattle.monitor.proofs.Prefixes.{stays-refused, line-byte, prefix-taken}
-use Rattle.monitor.proofs.TallyLaws.{accepted-tally}
-use Rattle.claims.specs.Demands.{Settled, ReadToEnd, Demand2}
+use Rattle.monitor.proofs.Prefixes.{stays-refused}
+use Rattle.monitor.proofs.LogMeans.{log-means}
+use Rattle.monitor.proofs.TallyLaws.{tallied-is-line}
+use Rattle.claims.specs.Demands.{Settled, Demand2}
 
 rule-taken : (file : List ℕ) (x : Rule) → ruleOf file ≡ RuleRead.Rule x → Taken file x
 rule-taken file x e = reads-rule file (RuleRead.Rule x) (sym e) .taken x refl
@@ -58,49 +59,31 @@ line-taken file x e log t r w line l v =
 module _ (file : List ℕ) (x : Rule) (w : List ℕ) where
   -- lines that are taken are read to their end
   to-end : (ls : List (List ℕ)) (t u : Trace) (out : List ℕ) → steps (next t) ls ≡ next u
-      → (linesFrom file x t ls w out .0 ≡ ended u Ending.Read) × (linesFrom file x t ls w out .1 ≡ workOf (u .runs) w)
+      → linesFrom file x t ls w out .0 ≡ ended u Ending.Read
   to-end [] t u out e =
       let f = from-none file x t w out in
       let g : t ≡ u = cc in
-      (ap (λ (z : Result). z .0) f ∙ ap (λ (z : Trace). ended z Ending.Read) g, ap (λ (z : Result). z .1) f ∙ ap (λ (z : Trace). workOf (z .runs) w) g)
+      ap (λ (z : Result). z .0) f ∙ ap (λ (z : Trace). ended z Ending.Read) g
   to-end (l ∷ ls) t u out e =
       by-answer t l
       (λ v p.
       let f = from-taken file x t l ls w out v p in
-      let g = to-end ls v u _ (ap (λ (a : Answer). steps a ls) (sym (step-is t l ∙ p)) ∙ e) in
-      (ap (λ (z : Result). z .0) f ∙ g .0, ap (λ (z : Result). z .1) f ∙ g .1))
+      ap (λ (z : Result). z .0) f ∙ to-end ls v u _ (ap (λ (a : Answer). steps a ls) (sym (step-is t l ∙ p)) ∙ e))
       (λ c p. not-taken c u (sym (stays-refused c ls) ∙ (ap (λ (a : Answer). steps a ls) (sym (step-is t l ∙ p)) ∙ e)))
 
-  -- the byte of line k + 1, counted from the first line
-  first-byte : (ls : List (List ℕ)) (out : List ℕ) (k : ℕ) (u : Trace) → k < length ls → steps (next noTrace) (take (suc k) ls) ≡ next u → k < length out
-      → getD (linesFrom file x noTrace ls w out .2) k 0 ≡ verdictByte (verdictOf u (formulaOf file x))
-  first-byte ls out k u h e room =
-      let z : 0 + k ≡ k = omega arith in
-      subst (λ (j : ℕ). getD (linesFrom file x noTrace ls w out .2) j 0 ≡ verdictByte (verdictOf u (formulaOf file x))) z (line-byte file x w k ls noTrace out u h e (omega arith))
-
-lines-fit : (log : List ℕ) (t : Trace) → Accepted log t → length (linesOf log) ≤ 256
-unfolding tallyOf
-lines-fit log t a = let n : t .lines ≡ length (linesOf log) = accepted-tally log t 0 a .lines in omega (arith, accepted-bounded log t a .lines)
-
-log-read : (file : List ℕ) (x : Rule) → ruleOf file ≡ RuleRead.Rule x → (log : List ℕ) (t : Trace) → Accepted log t
-    → (w out : List ℕ) → 16384 ≤ length w → 256 ≤ length out → ReadToEnd file x log t w out
+log-read : (file : List ℕ) (x : Rule) → ruleOf file ≡ RuleRead.Rule x → (log : List ℕ) (t : Trace) → Accepted log t → (w out : List ℕ) → 16384 ≤ length w → 256 ≤ length out
+    → logOf file log w out .0 ≡ ended t Ending.Read
 unfolding logOf read
 log-read file x e log t a w out long room =
     let f : logOf file log w out ≡ linesFrom file x noTrace (linesOf log) w out = simp (le-ltb _ _ long, le-ltb _ _ room) (with-taken (ruleOf file) x _ _ e) in
-    let g = to-end file x w (linesOf log) noTrace t out (a .leaves) in
-    let n : length (linesOf log) ≤ 256 = lines-fit log t a in
-    record {
-      state = ap (λ (z : Result). z .0) f ∙ g .0;
-      pairs = ap (λ (z : Result). z .1) f ∙ g .1;
-      verdicts = λ k h.
-          let p = prefix-taken (suc k) (linesOf log) [] noTrace no-bytes t (a .leaves) in
-          record {
-            trace = p .0;
-            leaves = p .1;
-            byte = ap (λ (z : Result). getD (z .2) k 0) f ∙ first-byte file x w (linesOf log) out k (p .0) h (p .1) (omega arith);
-            verdict = verdict-says file x (rule-taken file x e) (p .0);
-          };
-    }
+    ap (λ (z : Result). z .0) f ∙ to-end file x w (linesOf log) noTrace t out (a .leaves)
 
 pub demand-2 : Demand2
-demand-2 = record { settled = settled; line = line-taken; log = log-read }
+demand-2 =
+    record {
+      settled = settled;
+      line = line-taken;
+      tallied = tallied-is-line;
+      log = λ file x e log w out. log-means file log w out _ _ _ refl x e;
+      read = log-read;
+    }

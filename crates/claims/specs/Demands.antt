@@ -1,11 +1,13 @@
 -- The three demands, as three statements. They speak of the definitions to which the calls' contracts equate their answers and
 -- the contents of every lent buffer: `lineOf` (`monitor::check_line`), `talliedOf` (`monitor::check_line_tallied`), `logOf`
 -- (`monitor::check_log`), `composeOf` (`relations::compose`). That a call ends and does nothing undefined is proved of every function.
-use Prim.Native.Nat.{ℕ, suc, _+_, _≤_, _<_}
+use Prim.Native.Nat.{ℕ, _+_, _≤_, _<_}
 use mathlib.Core.Path.{_≡_}
+use mathlib.Core.Logic.{_↔_}
+use mathlib.Core.Bool.{true}
 use mathlib.Core.List.{List, _∷_, _++_}
 use mathlib.Core.Option.{Option, some}
-use lib.ListN.{length, getD, take}
+use lib.ListN.{length}
 use Rattle.lines.specs.Line.{eventOf}
 use Rattle.lines.specs.Log.{linesOf}
 use Rattle.trace.specs.declared.Record.{Record}
@@ -18,14 +20,16 @@ use Rattle.rules.specs.declared.Rule.{Rule}
 use Rattle.rules.specs.declared.RuleRead.the-variants as RuleRead
 use Rattle.rules.specs.Rules.{ruleOf, formulaOf}
 use Rattle.logic.specs.declared.Verdict.{Verdict}
-use Rattle.logic.specs.Verdict.{verdictByte, verdictOf, Says}
+use Rattle.logic.specs.Verdict.{verdictOf, Says}
 use Rattle.monitor.specs.declared.Outcome.the-variants.{Refused}
 use Rattle.monitor.specs.declared.Ending.the-variants as Ending
+use Rattle.monitor.specs.declared.Checked.{Checked}
 use Rattle.monitor.specs.declared.Tally.{Tally}
 use Rattle.monitor.specs.Handed.{Left, HandedBy, Reached}
 use Rattle.monitor.specs.Line.{judged, refusing, lineOf, TakenLine}
-use Rattle.monitor.specs.Tally.{refusingWith, talliedOf}
-use Rattle.monitor.specs.Log.{ended, notRead, linesFrom, logOf}
+use Rattle.monitor.specs.Tally.{counts?, untallied, refusingWith, talliedOf}
+use Rattle.monitor.specs.Log.{ended, notRead, linesFrom, logOf, LogMeans}
+use Rattle.claims.specs.WhereMet.{MetLine, MetTallied, MetLog}
 
 -- ── demand 1 ──
 -- "Each refusal is on the numbered list"
@@ -46,13 +50,19 @@ pub data LogRefused (file log w out : List ℕ) (c n : ℕ) : Type 0 where
       → LogRefused file log w out c n
 
 -- "Each refusal is on the numbered list, is met just where the list says, and changes nothing that earlier lines had settled."
--- Where each is met is what the three definitions say, in the paper's order.
 pub record Demand1 : Type 0 where
+  -- "is on the numbered list .. and changes nothing that earlier lines had settled"
   pub line : (file : List ℕ) (r : Record) (w line : List ℕ) (k : Option Trace) → (Reached file w → HandedBy r w k) → (c : ℕ) → lineOf file r w line k .0 .outcome ≡ Refused c
       → Listed c × (lineOf file r w line k ≡ (refusing r c, w))
   pub tallied : (file : List ℕ) (r : Record) (y : Tally) (w line : List ℕ) (k : Option Trace) → (Reached file w → HandedBy r w k) → (c : ℕ) → talliedOf file r y w line k .0 .outcome ≡ Refused c
       → Listed c × (talliedOf file r y w line k ≡ (refusingWith r y c, w))
   pub log : (file log w out : List ℕ) (c n : ℕ) → logOf file log w out .0 .ending ≡ Ending.Refused c n → Listed c × LogRefused file log w out c n
+  -- "is met just where the list says": a call answers c if and only if c is met
+  pub line-met : (file : List ℕ) (r : Record) (w line : List ℕ) (k : Option Trace) → (Reached file w → HandedBy r w k) → (c : ℕ)
+      → (lineOf file r w line k .0 .outcome ≡ Refused c) ↔ MetLine file r w line c
+  pub tallied-met : (file : List ℕ) (r : Record) (y : Tally) (w line : List ℕ) (k : Option Trace) → (Reached file w → HandedBy r w k) → (c : ℕ)
+      → (talliedOf file r y w line k .0 .outcome ≡ Refused c) ↔ MetTallied file r y w line c
+  pub log-met : (file log w out : List ℕ) (c n : ℕ) → (logOf file log w out .0 .ending ≡ Ending.Refused c n) ↔ MetLog file log w out c n
 
 -- ── demand 2 ──
 -- "After every accepted line, the relation noted for each pair of runs is the one that their line positions give, and the verdict is
@@ -64,19 +74,6 @@ pub record Settled (file : List ℕ) (x : Rule) (t : Trace) (v : Verdict) : Type
   pub order : (a b : ℕ) → a < b → b < length (t .runs) → pairByte (t .runs) a b ≡ nameOf (wordOf (t .lines) (runAt t a) (runAt t b))
   pub verdict : Says t (formulaOf file x) v
 
--- the verdict byte b of the last of some lines: what the lines leave, and what the byte says of it
-pub record LineVerdict (file : List ℕ) (x : Rule) (ls : List (List ℕ)) (b : ℕ) : Type 0 where
-  pub trace : Trace
-  pub leaves : steps (next noTrace) ls ≡ next trace
-  pub byte : b ≡ verdictByte (verdictOf trace (formulaOf file x))
-  pub verdict : Says trace (formulaOf file x) (verdictOf trace (formulaOf file x))
-
--- a whole log that is accepted, read to its end: the record and the pair bytes of its lines, and the verdict byte of each line
-pub record ReadToEnd (file : List ℕ) (x : Rule) (log : List ℕ) (t : Trace) (w out : List ℕ) : Type 0 where
-  pub state : logOf file log w out .0 ≡ ended t Ending.Read
-  pub pairs : logOf file log w out .1 ≡ workOf (t .runs) w
-  pub verdicts : (k : ℕ) → k < length (linesOf log) → LineVerdict file x (take (suc k) (linesOf log)) (getD (logOf file log w out .2) k 0)
-
 pub record Demand2 : Type 0 where
   -- of every accepted log, and every rule that is taken
   pub settled : (file : List ℕ) (x : Rule) → ruleOf file ≡ RuleRead.Rule x → (log : List ℕ) (t : Trace) → Accepted log t → Settled file x t (verdictOf t (formulaOf file x))
@@ -84,11 +81,18 @@ pub record Demand2 : Type 0 where
   pub line : (file : List ℕ) (x : Rule) → ruleOf file ≡ RuleRead.Rule x → (log : List ℕ) (t : Trace) (r : Record) (w line : List ℕ) → Left log t r w
       → (v : Verdict) → lineOf file r w line (some t) .0 .outcome ≡ judged v
       → TakenLine file x log line w v (lineOf file r w line (some t) .0 .state) (lineOf file r w line (some t) .1)
-  -- and after every line of a whole log
-  pub log : (file : List ℕ) (x : Rule) → ruleOf file ≡ RuleRead.Rule x → (log : List ℕ) (t : Trace) → Accepted log t
-      → (w out : List ℕ) → 16384 ≤ length w → 256 ≤ length out → ReadToEnd file x log t w out
+  -- the call with a tally answers the same
+  pub tallied : (file : List ℕ) (r : Record) (y : Tally) (w line : List ℕ) (t : Trace) → counts? t y ≡ true
+      → _≡_ {A = Checked × List ℕ} (untallied (talliedOf file r y w line (some t) .0), talliedOf file r y w line (some t) .1) (lineOf file r w line (some t))
+  -- and so after every line of a whole log, up to the first that is refused: its verdict byte, and at the end the record and the pair bytes
+  pub log : (file : List ℕ) (x : Rule) → ruleOf file ≡ RuleRead.Rule x → (log w out : List ℕ) → 16384 ≤ length w → 256 ≤ length out
+      → LogMeans file x log w out (logOf file log w out .0) (logOf file log w out .1) (logOf file log w out .2)
+  -- an accepted log is read to its end
+  pub read : (file : List ℕ) (x : Rule) → ruleOf file ≡ RuleRead.Rule x → (log : List ℕ) (t : Trace) → Accepted log t → (w out : List ℕ) → 16384 ≤ length w → 256 ≤ length out
+      → logOf file log w out .0 ≡ ended t Ending.Read
 
 -- ── demand 3 ──
--- all pairs of sets and all relations, undivided
+-- "A relation is in the composition reported for two sets exactly when some accepted log of any length shows it with three different
+-- finished runs; and then one with three runs and no others does": all pairs of sets and all relations, undivided
 abbrev pub Demand3 : Type 0
 Demand3 = Compose.Demand3

@@ -1,1 +1,2 @@
+pub mod WhereMet
 pub mod Demands

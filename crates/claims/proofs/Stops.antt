@@ -1,0 +1,105 @@
+-- What the proofs of demand 1 share: one refusal from another, and the line of a log that is the first to be refused.
+use Prim.Native.Nat.{ℕ, _+_}
+use mathlib.Core.Path.{_≡_, refl, ap, sym, _∙_}
+use mathlib.Core.List.{List, [], _∷_, _++_}
+use native.Mathlib.Omega.{arith}
+use lib.ListN.{length, set}
+use Rattle.lines.specs.Line.{eventOf}
+use Rattle.trace.specs.Trace.{Trace, Answer, next, refused, apply, applyTo, step, steps}
+use Rattle.trace.proofs.Taken.{step-lines}
+use Rattle.pairs.specs.Pairs.{workOf}
+use Rattle.rules.specs.declared.Rule.{Rule}
+use Rattle.rules.specs.Rules.{formulaOf}
+use Rattle.logic.specs.declared.Verdict.{Verdict}
+use Rattle.logic.specs.declared.Verdict.the-variants as Verdict
+use Rattle.logic.specs.Verdict.{verdictByte, verdictOf}
+use Rattle.monitor.specs.declared.Outcome.the-variants.{Holds, Fails, Refused}
+use Rattle.monitor.specs.declared.Ending.the-variants as Ending
+use Rattle.monitor.specs.declared.LogChecked.{LogChecked}
+use Rattle.monitor.specs.Line.{judged}
+use Rattle.monitor.specs.Log.{ended, linesFrom}
+use Rattle.monitor.proofs.Lines.{from-none, from-taken, from-refused}
+
+-- ── outcomes ──
+pub same-refusal : (c d : ℕ) → Refused d ≡ Refused c → d ≡ c
+same-refusal c d e = cc
+
+pub not-judged : {C : Type 0} (v : Verdict) (c : ℕ) → judged v ≡ Refused c → C
+not-judged Verdict.Holds c e = absurd (let z : _≡_ {A = ℕ} 0 1 = cc in omega arith)
+not-judged Verdict.Fails c e = absurd (let z : _≡_ {A = ℕ} 0 1 = cc in omega arith)
+
+-- ── the lines of a log ──
+abbrev pub End : Type 0
+End = LogChecked × List ℕ × List ℕ
+
+pub same-ending : (c d n m : ℕ) → Ending.Refused d m ≡ Ending.Refused c n → (d ≡ c) × (m ≡ n)
+same-ending c d n m e = ((cc), (cc))
+
+not-read-to-end : {C : Type 0} (c n : ℕ) → Ending.Read ≡ Ending.Refused c n → C
+not-read-to-end c n e = absurd (let z : _≡_ {A = ℕ} 0 1 = cc in omega arith)
+
+module _ (file : List ℕ) (x : Rule) (w : List ℕ) where
+  -- the lines from t on are refused with c at line n
+  pub record Stopped (t : Trace) (ls : List (List ℕ)) (out : List ℕ) (c n : ℕ) : Type 0 where
+    pub before : List (List ℕ)
+    pub line : List ℕ
+    pub after : List (List ℕ)
+    pub trace : Trace
+    pub out′ : List ℕ
+    pub lines : ls ≡ before ++ (line ∷ after)
+    pub leaves : steps (next t) before ≡ next trace
+    pub counted : trace .lines ≡ t .lines + length before
+    pub at : n ≡ trace .lines + 1
+    pub why : apply trace (eventOf line) ≡ refused c
+    pub kept : linesFrom file x t before w out ≡ (ended trace Ending.Read, workOf (trace .runs) w, out′)
+    pub answer : linesFrom file x t ls w out ≡ (ended trace (Ending.Refused c n), workOf (trace .runs) w, out′)
+
+  next-out : Trace → Trace → List ℕ → List ℕ
+  next-out t u out = set out (t .lines) (verdictByte (verdictOf u (formulaOf file x)))
+
+  step-taken : (t u : Trace) (l : List ℕ) → apply t (eventOf l) ≡ next u → step (next t) l ≡ next u
+  unfolding step applyTo
+  step-taken t u l e = e
+
+  pub stops : (ls : List (List ℕ)) (t : Trace) (out : List ℕ) (c n : ℕ) → linesFrom file x t ls w out .0 .ending ≡ Ending.Refused c n → Stopped t ls out c n
+  unfolding next-out
+  stops [] t out c n e = not-read-to-end c n (sym (ap (λ (a : End). a .0 .ending) (from-none file x t w out)) ∙ e)
+  stops (l ∷ ls) t out c n e = go (apply t (eventOf l)) refl (λ u q. stops ls u (next-out t u out) c n)
+    where
+      go : (a : Answer) → apply t (eventOf l) ≡ a
+          → ((u : Trace) → apply t (eventOf l) ≡ next u → linesFrom file x u ls w (next-out t u out) .0 .ending ≡ Ending.Refused c n → Stopped u ls (next-out t u out) c n) → Stopped t (l ∷ ls) out c n
+      go (next u) q rest =
+          let f = from-taken file x t l ls w out u q in
+          let g : Stopped u ls (next-out t u out) c n = rest u q (sym (ap (λ (a : End). a .0 .ending) f) ∙ e) in
+          let m = step-lines t u (eventOf l) q in
+          record {
+            before = l ∷ g .before;
+            line = g .line;
+            after = g .after;
+            trace = g .trace;
+            out′ = g .out′;
+            lines = ap (λ (z : List (List ℕ)). l ∷ z) (g .lines);
+            leaves = ap (λ (a : Answer). steps a (g .before)) (step-taken t u l q) ∙ g .leaves;
+            counted = omega (arith, g .counted);
+            at = g .at;
+            why = g .why;
+            kept = from-taken file x t l (g .before) w out u q ∙ g .kept;
+            answer = f ∙ g .answer;
+          }
+      go (refused d) q rest =
+          let f = from-refused file x t l ls w out d q in
+          let p = same-ending c d n (t .lines + 1) (sym (ap (λ (a : End). a .0 .ending) f) ∙ e) in
+          record {
+            before = [];
+            line = l;
+            after = ls;
+            trace = t;
+            out′ = out;
+            lines = refl;
+            leaves = refl;
+            counted = omega arith;
+            at = sym (p .1);
+            why = q ∙ ap refused (p .0);
+            kept = from-none file x t w out;
+            answer = f ∙ (λ i. (ended t (Ending.Refused (p .0 i) (p .1 i)), workOf (t .runs) w, out));
+          }

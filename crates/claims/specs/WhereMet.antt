@@ -1,0 +1,50 @@
+-- Where each refusal is met: for each of the three calls, what makes it answer the number c. "Order: 20; then the rule from its
+-- front ..; then 21; 24; then the line": each case can only be met where no number before it is.
+use Prim.Native.Nat.{ℕ, _+_, _≤_, _<_}
+use mathlib.Core.Path.{_≡_}
+use mathlib.Core.Bool.{true, false}
+use mathlib.Core.List.{List, _∷_, _++_}
+use lib.ListN.{length}
+use Rattle.lines.specs.Line.{eventOf}
+use Rattle.lines.specs.Log.{linesOf}
+use Rattle.trace.specs.declared.Record.{Record}
+use Rattle.trace.specs.Trace.{Trace, next, refused, noTrace, apply, steps}
+use Rattle.rules.specs.declared.Rule.{Rule}
+use Rattle.rules.specs.declared.RuleRead.the-variants as RuleRead
+use Rattle.rules.specs.Rules.{ruleOf}
+use Rattle.monitor.specs.declared.Tally.{Tally}
+use Rattle.monitor.specs.Handed.{Left, Reached}
+use Rattle.monitor.specs.Tally.{counts?}
+
+-- the single-line call
+pub data MetLine (file : List ℕ) (r : Record) (w line : List ℕ) (c : ℕ) : Type 0 where
+  -- "20 a lent buffer shorter than stated"
+  line-short : length w < 16384 → c ≡ 20 → MetLine file r w line c
+  -- "then the rule from its front"
+  line-rule : 16384 ≤ length w → ruleOf file ≡ RuleRead.Refused c → MetLine file r w line c
+  -- "21 no sequence of accepted lines leaves the record handed in, or the pair bytes are not that record's"
+  line-unknown : Reached file w → ((log : List ℕ) (t : Trace) → Left log t r w → ⊥) → c ≡ 21 → MetLine file r w line c
+  -- "then the line", after the lines that leave the record
+  line-refused : Reached file w → (log : List ℕ) (t : Trace) → Left log t r w → apply t (eventOf line) ≡ refused c → MetLine file r w line c
+
+-- the single-line call with a tally
+pub data MetTallied (file : List ℕ) (r : Record) (y : Tally) (w line : List ℕ) (c : ℕ) : Type 0 where
+  tallied-short : length w < 16384 → c ≡ 20 → MetTallied file r y w line c
+  tallied-rule : 16384 ≤ length w → ruleOf file ≡ RuleRead.Refused c → MetTallied file r y w line c
+  tallied-unknown : Reached file w → ((log : List ℕ) (t : Trace) → Left log t r w → ⊥) → c ≡ 21 → MetTallied file r y w line c
+  -- "24 a tally whose first four counts are not the record's, or whose failing lines exceed its lines"
+  tallied-wrong : Reached file w → (log : List ℕ) (t : Trace) → Left log t r w → counts? t y ≡ false → c ≡ 24 → MetTallied file r y w line c
+  tallied-refused : Reached file w → (log : List ℕ) (t : Trace) → Left log t r w → counts? t y ≡ true → apply t (eventOf line) ≡ refused c → MetTallied file r y w line c
+
+-- the whole-log call, which names line n: 0 before any line is read, else the first line that meets a refusal
+pub data MetLog (file log w out : List ℕ) (c n : ℕ) : Type 0 where
+  log-short-work : length w < 16384 → c ≡ 20 → n ≡ 0 → MetLog file log w out c n
+  log-short-verdicts : length out < 256 → c ≡ 20 → n ≡ 0 → MetLog file log w out c n
+  log-rule : 16384 ≤ length w → 256 ≤ length out → ruleOf file ≡ RuleRead.Refused c → n ≡ 0 → MetLog file log w out c n
+  -- the lines before it are taken, and it is refused after them
+  log-refused : 16384 ≤ length w → 256 ≤ length out → (x : Rule) → ruleOf file ≡ RuleRead.Rule x
+      → (before : List (List ℕ)) (line : List ℕ) (after : List (List ℕ)) (t : Trace)
+      → linesOf log ≡ before ++ (line ∷ after)
+      → steps (next noTrace) before ≡ next t → n ≡ length before + 1
+      → apply t (eventOf line) ≡ refused c
+      → MetLog file log w out c n

@@ -42,7 +42,7 @@ end-number t i c e = go (begun? i (t .runs)) (eqb (endOf i (t .runs)) 0) e
     go true false e = let f = same-number c 17 e in omega arith
     go false b e = let f = same-number c 16 e in omega arith
 
--- a line is refused with 11 to 13 or 15 to 19
+-- a line is refused with one of 11 to 19
 pub line-number : (t : Trace) (l : List ℕ) (c : ℕ) → apply t (eventOf l) ≡ refused c → (11 ≤ c) × (c ≤ 19)
 unfolding apply
 line-number t l c e = go (eventOf l) refl e

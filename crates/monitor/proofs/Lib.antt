@@ -15,3 +15,4 @@ pub mod LogMeans
 pub mod LogCall
 pub mod Cut
 pub mod TallyLaws
+pub mod Failing

@@ -32,14 +32,14 @@ use Rattle.monitor.proofs.Lines.{by-answer, from-none, from-taken, from
 use Rattle.monitor.proofs.Prefixes.{stays-refused, line-byte}
 
 -- ── lines that are taken ──
-same-trace : (t u : Trace) → next t ≡ next u → t ≡ u
+pub same-trace : (t u : Trace) → next t ≡ next u → t ≡ u
 same-trace t u e = cc
 
 -- what the lines after a taken line leave
-after-line : (t v u : Trace) (l : List ℕ) (ls : List (List ℕ)) → apply t (eventOf l) ≡ next v → steps (next t) (l ∷ ls) ≡ next u → steps (next v) ls ≡ next u
+pub after-line : (t v u : Trace) (l : List ℕ) (ls : List (List ℕ)) → apply t (eventOf l) ≡ next v → steps (next t) (l ∷ ls) ≡ next u → steps (next v) ls ≡ next u
 after-line t v u l ls p e = ap (λ (a : Answer). steps a ls) (sym (step-is t l ∙ p)) ∙ e
 
-no-line : {C : Type 0} (t u : Trace) (c : ℕ) (l : List ℕ) (ls : List (List ℕ)) → apply t (eventOf l) ≡ refused c → steps (next t) (l ∷ ls) ≡ next u → C
+pub no-line : {C : Type 0} (t u : Trace) (c : ℕ) (l : List ℕ) (ls : List (List ℕ)) → apply t (eventOf l) ≡ refused c → steps (next t) (l ∷ ls) ≡ next u → C
 no-line t u c l ls p e = not-taken c u (sym (stays-refused c ls) ∙ (ap (λ (a : Answer). steps a ls) (sym (step-is t l ∙ p)) ∙ e))
 
 pub lines-accepted : (ls : List (List ℕ)) (log : List ℕ) (s : Trace) → Accepted log s → (u : Trace) → steps (next s) ls ≡ next u → Accepted (log ++ flat ls) u
@@ -51,7 +51,7 @@ lines-accepted (l ∷ ls) log s a u e =
     (lines-accepted ls (log ++ l) v (taken-grows log s a l v p) u (after-line s v u l ls p e)))
     (λ c p. no-line s u c l ls p e)
 
-lines-counted : (ls : List (List ℕ)) (t u : Trace) → steps (next t) ls ≡ next u → u .lines ≡ t .lines + length ls
+pub lines-counted : (ls : List (List ℕ)) (t u : Trace) → steps (next t) ls ≡ next u → u .lines ≡ t .lines + length ls
 lines-counted [] t u e = let s = same-trace t u e in let z : u .lines ≡ t .lines = ap (λ (v : Trace). v .lines) (sym s) in omega arith
 lines-counted (l ∷ ls) t u e =
     by-answer t l

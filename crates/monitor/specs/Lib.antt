@@ -1,7 +1,7 @@
 pub mod Handed
 pub mod Line
 pub mod Step
-pub mod Tally
 pub mod Log
+pub mod Tally
 pub mod Reading
 pub mod Repeated

@@ -11,7 +11,7 @@ use Rattle.lines.specs.Line.{eventOf}
 use Rattle.lines.specs.Log.{linesOf}
 use Rattle.trace.specs.declared.Run.{Run}
 use Rattle.trace.specs.declared.Record.{Record}
-use Rattle.trace.specs.Trace.{Trace, Answer, next, refused, apply, finish}
+use Rattle.trace.specs.Trace.{Trace, Answer, next, refused, noTrace, apply, finish}
 use Rattle.trace.specs.Record.{recordOf}
 use Rattle.pairs.specs.Pairs.{workOf}
 use Rattle.rules.specs.declared.Rule.{Rule}
@@ -26,6 +26,7 @@ use Rattle.monitor.specs.declared.Tally.{Tally}
 use Rattle.monitor.specs.declared.Tallied.{Tallied}
 use Rattle.monitor.specs.Handed.{Left, HandedBy, Reached}
 use Rattle.monitor.specs.Line.{judged, withRule, LineMeans}
+use Rattle.monitor.specs.Log.{byAnswer}
 
 -- how many runs are finished
 unfoldable pub finishedRuns : List Run → ℕ
@@ -120,6 +121,15 @@ pub record TallyCounts (log : List ℕ) (y : Tally) : Type 0 where
   pub begun : y .begun ≡ beginLines (linesOf log)
   pub finished : y .finished ≡ endLines (linesOf log)
   pub balance : y .begun ≡ y .finished + y .running
+
+-- how many of the lines fail, after those that t stands for; no line after a refused one counts
+unfoldable pub failingFrom : List ℕ → Rule → Trace → List (List ℕ) → ℕ
+failingFrom file x t [] = 0
+failingFrom file x t (l ∷ ls) = byAnswer (apply t (eventOf l)) (λ u. failed (verdictOf u (formulaOf file x)) + failingFrom file x u ls) (λ c. 0)
+
+-- the tally of an accepted log, whose lines leave t
+unfoldable pub tallyAfter : List ℕ → Rule → List ℕ → Trace → Tally
+tallyAfter file x log t = tallyOf t (failingFrom file x noTrace (linesOf log))
 
 -- the answer without its tally
 abbrev pub untallied : Tallied → Checked

@@ -36,7 +36,7 @@ module _ (file : List ℕ) (x : Rule) (w : List ℕ) where
       → bytesFrom t (l ∷ ls) out ≡ bytesFrom u ls (set out (t .lines) (byteOf u))
   after-taken t l ls out u p = ap (λ (z : Result). z .2) (from-taken file x t l ls w out u p)
 
-  -- the bytes before those of the lines, and past them, stay
+  -- the bytes before those of the lines stay
   pub kept-byte : (ls : List (List ℕ)) (t : Trace) (out : List ℕ) (j : ℕ) → j < t .lines → getD (bytesFrom t ls out) j 0 ≡ getD out j 0
   kept-byte [] t out j h = ap (λ (z : Result). getD (z .2) j 0) (from-none file x t w out)
   kept-byte (l ∷ ls) t out j h =

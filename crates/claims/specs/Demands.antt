@@ -1,6 +1,8 @@
 -- The three demands, as three statements. They speak of the definitions to which the calls' contracts equate their answers and
 -- the contents of every lent buffer: `lineOf` (`monitor::check_line`), `talliedOf` (`monitor::check_line_tallied`), `logOf`
 -- (`monitor::check_log`), `composeOf` (`relations::compose`). That a call ends and does nothing undefined is proved of every function.
+-- Demand 1 is here of the three calls of `monitor`. The refusals of starting a record (20), relating (21 to 23) and composing (14) are
+-- said by the contracts of those calls, and not on this page.
 use Prim.Native.Nat.{ℕ, _+_, _≤_, _<_}
 use mathlib.Core.Path.{_≡_}
 use mathlib.Core.Logic.{_↔_}

@@ -14,6 +14,7 @@ use Rattle.lines.specs.Log.{linesOf}
 use Rattle.trace.specs.declared.Record.{Record}
 use Rattle.trace.specs.Trace.{Trace, Answer, next, refused, noTrace, apply}
 use Rattle.trace.specs.Record.{recordOf}
+use Rattle.pairs.specs.Pairs.{workOf}
 use Rattle.rules.specs.declared.Rule.{Rule}
 use Rattle.rules.specs.declared.RuleRead.{RuleRead}
 use Rattle.rules.specs.declared.RuleRead.the-variants as RuleRead
@@ -28,11 +29,12 @@ use Rattle.monitor.specs.declared.Ending.the-variants as Ending
 use Rattle.monitor.specs.Handed.{HandedBy, Reached}
 use Rattle.monitor.specs.Line.{refusing, lineAfter, advanceOf, stateOf, withRule, lineOf}
 use Rattle.monitor.specs.Tally.{refusingWith, counts?, talliedAfter, talliedState, talliedOf}
-use Rattle.monitor.specs.Log.{notRead, linesFrom, logOf}
+use Rattle.monitor.specs.Log.{ended, notRead, linesFrom, logOf}
 use Rattle.claims.specs.Demands.{Listed, LogRefused, unread, stopped, Demand1}
 use Rattle.claims.proofs.Numbers.{line-number}
-use Rattle.claims.proofs.Stops.{same-refusal, not-judged, End, same-ending, Stopped, stops}
+use Rattle.claims.proofs.Stops.{same-refusal, not-judged, End, same-ending, Stopped, stops, start-of, start-accepted, start-lines, start-divides, start-number}
 use Rattle.claims.proofs.WhereMet.{line-met, tallied-met, log-met}
+use Rattle.claims.proofs.OtherCalls.{start-met, start-kept, relate-met, compose-met, converse-met}
 
 -- ── numbers ──
 rule-number : (file : List ℕ) (n : ℕ) → ruleOf file ≡ RuleRead.Refused n → Listed n
@@ -123,6 +125,11 @@ log-kept file log w out c n e =
     (omega arith, unread (sym (p .1)) (q ∙ (λ i. (notRead (p .0 i), w, out)))))
     (λ s. go (ruleOf file) refl s)
   where
+    -- the rule is taken and the buffers are long enough: the lines are read
+    read-first : (l : List ℕ) (x : Rule) → ruleOf file ≡ RuleRead.Rule x → ltb (length w) 16384 || ltb (length out) 256 ≡ false
+        → logOf file l w out ≡ linesFrom file x noTrace (linesOf l) w out
+    read-first l x r s = simp s (ap (λ (z : RuleRead). withRule {A = End} z (λ n. (notRead n, w, out)) (λ x. linesFrom file x noTrace (linesOf l) w out)) r)
+
     go : (q : RuleRead) → ruleOf file ≡ q → ltb (length w) 16384 || ltb (length out) 256 ≡ false → Listed c × LogRefused file log w out c n
     go (RuleRead.Refused m) r s =
         let q : logOf file log w out ≡ (notRead m, w, out) = simp s (ap (λ (z : RuleRead). withRule {A = End} z (λ n. (notRead n, w, out)) (λ x. linesFrom file x noTrace (linesOf log) w out)) r) in
@@ -130,10 +137,25 @@ log-kept file log w out c n e =
         let l = rule-number file m r in
         (omega arith, unread (sym (p .1)) (q ∙ (λ i. (notRead (p .0 i), w, out))))
     go (RuleRead.Rule x) r s =
-        let q : logOf file log w out ≡ linesFrom file x noTrace (linesOf log) w out = simp s (ap (λ (z : RuleRead). withRule {A = End} z (λ n. (notRead n, w, out)) (λ x. linesFrom file x noTrace (linesOf log) w out)) r) in
+        let q = read-first log x r s in
         let g : Stopped file x w noTrace (linesOf log) out c n = stops file x w (linesOf log) noTrace out c n (sym (ap (λ (a : End). a .0 .ending) q) ∙ e) in
         let l = line-number (g .trace) (g .line) c (g .why) in
-        (omega arith, stopped x (g .before) (g .line) (g .after) (g .trace) (g .out′) r (g .lines) (g .leaves) (omega (arith, g .at, g .counted)) (g .why) (g .kept) (q ∙ g .answer))
+        let k : logOf file (start-of file x w (linesOf log) out c n g) w out ≡ (ended (g .trace) Ending.Read, workOf (g .trace .runs) w, g .out′) =
+        read-first (start-of file x w (linesOf log) out c n g) x r s ∙ (ap (λ (z : List (List ℕ)). linesFrom file x noTrace z w out) (start-lines file x w (linesOf log) out c n g) ∙ g .kept) in
+        (omega arith, stopped x (start-of file x w (linesOf log) out c n g) (g .line) (g .after) (g .trace) (g .out′) r (start-divides file x w (linesOf log) out c n g) (start-accepted file x w (linesOf log) out c n g) (start-number file x w (linesOf log) out c n g) (g .why) k (q ∙ g .answer))
 
 pub demand-1 : Demand1
-demand-1 = record { line = line-kept; tallied = tallied-kept; log = log-kept; line-met = line-met; tallied-met = tallied-met; log-met = log-met }
+demand-1 =
+    record {
+      line = line-kept;
+      tallied = tallied-kept;
+      log = log-kept;
+      line-met = line-met;
+      tallied-met = tallied-met;
+      log-met = log-met;
+      start-met = start-met;
+      start = start-kept;
+      relate-met = relate-met;
+      compose-met = compose-met;
+      converse-met = converse-met;
+    }

@@ -5,8 +5,10 @@ use mathlib.Core.List.{List, [], _∷_, _++_}
 use native.Mathlib.Omega.{arith}
 use lib.ListN.{length, set}
 use Rattle.lines.specs.Line.{eventOf}
-use Rattle.trace.specs.Trace.{Trace, Answer, next, refused, apply, applyTo, step, steps}
+use Rattle.lines.specs.Log.{linesOf}
+use Rattle.trace.specs.Trace.{Trace, Answer, next, refused, noTrace, apply, applyTo, step, steps, Accepted}
 use Rattle.trace.proofs.Taken.{step-lines}
+use Rattle.trace.proofs.Grown.{no-bytes, flat}
 use Rattle.pairs.specs.Pairs.{workOf}
 use Rattle.rules.specs.declared.Rule.{Rule}
 use Rattle.rules.specs.Rules.{formulaOf}
@@ -19,6 +21,7 @@ use Rattle.monitor.specs.declared.LogChecked.{LogChecked}
 use Rattle.monitor.specs.Line.{judged}
 use Rattle.monitor.specs.Log.{ended, linesFrom}
 use Rattle.monitor.proofs.Lines.{from-none, from-taken, from-refused}
+use Rattle.monitor.proofs.LogMeans.{lines-accepted, taken-lines}
 
 -- ── outcomes ──
 pub same-refusal : (c d : ℕ) → Refused d ≡ Refused c → d ≡ c
@@ -103,3 +106,22 @@ module _ (file : List ℕ) (x : Rule) (w : List ℕ) where
             kept = from-none file x t w out;
             answer = f ∙ (λ i. (ended t (Ending.Refused (p .0 i) (p .1 i)), workOf (t .runs) w, out));
           }
+
+  -- from no lines on, the lines before the refused one are an accepted log
+  module _ (ls : List (List ℕ)) (out : List ℕ) (c n : ℕ) (g : Stopped noTrace ls out c n) where
+    pub start-of : List ℕ
+    start-of = flat (g .before)
+
+    pub start-accepted : Accepted start-of (g .trace)
+    unfolding start-of
+    start-accepted = lines-accepted (g .before) [] noTrace no-bytes (g .trace) (g .leaves)
+
+    pub start-lines : linesOf start-of ≡ g .before
+    unfolding start-of
+    start-lines = taken-lines (g .before) noTrace (g .trace) (g .leaves)
+
+    pub start-divides : ls ≡ linesOf start-of ++ (g .line ∷ g .after)
+    start-divides = g .lines ∙ ap (λ (z : List (List ℕ)). z ++ (g .line ∷ g .after)) (sym start-lines)
+
+    pub start-number : n ≡ length (linesOf start-of) + 1
+    start-number = omega (arith, g .at, g .counted, ap length start-lines)

@@ -31,9 +31,8 @@ use Rattle.monitor.specs.Repeated.{Result}
 use Rattle.monitor.proofs.LineMeans.{judged-taken, verdict-says, line-means}
 use Rattle.monitor.proofs.LineCall.{with-taken}
 use Rattle.monitor.proofs.Lines.{by-answer, from-none, from-taken}
-use Rattle.monitor.proofs.Prefixes.{stays-refused}
-use Rattle.monitor.proofs.LogMeans.{log-means}
-use Rattle.monitor.proofs.TallyLaws.{tallied-is-line}
+use Rattle.monitor.proofs.LogMeans.{same-trace, after-line, no-line, log-means}
+use Rattle.monitor.proofs.TallyLaws.{tallied-means}
 use Rattle.claims.specs.Demands.{Settled, Demand2}
 
 rule-taken : (file : List ℕ) (x : Rule) → ruleOf file ≡ RuleRead.Rule x → Taken file x
@@ -62,14 +61,14 @@ module _ (file : List ℕ) (x : Rule) (w : List ℕ) where
       → linesFrom file x t ls w out .0 ≡ ended u Ending.Read
   to-end [] t u out e =
       let f = from-none file x t w out in
-      let g : t ≡ u = cc in
+      let g = same-trace t u e in
       ap (λ (z : Result). z .0) f ∙ ap (λ (z : Trace). ended z Ending.Read) g
   to-end (l ∷ ls) t u out e =
       by-answer t l
       (λ v p.
       let f = from-taken file x t l ls w out v p in
-      ap (λ (z : Result). z .0) f ∙ to-end ls v u _ (ap (λ (a : Answer). steps a ls) (sym (step-is t l ∙ p)) ∙ e))
-      (λ c p. not-taken c u (sym (stays-refused c ls) ∙ (ap (λ (a : Answer). steps a ls) (sym (step-is t l ∙ p)) ∙ e)))
+      ap (λ (z : Result). z .0) f ∙ to-end ls v u _ (after-line t v u l ls p e))
+      (λ c p. no-line t u c l ls p e)
 
 log-read : (file : List ℕ) (x : Rule) → ruleOf file ≡ RuleRead.Rule x → (log : List ℕ) (t : Trace) → Accepted log t → (w out : List ℕ) → 16384 ≤ length w → 256 ≤ length out
     → logOf file log w out .0 ≡ ended t Ending.Read
@@ -83,7 +82,7 @@ demand-2 =
     record {
       settled = settled;
       line = line-taken;
-      tallied = tallied-is-line;
+      tallied = λ file x e log t r y w line l p. tallied-means file r y w line x e log t l p _ _ refl;
       log = λ file x e log w out. log-means file log w out _ _ _ refl x e;
       read = log-read;
     }

@@ -14,12 +14,11 @@ use Rattle.lists.proofs.Cases.{either-lt, either-bool}
 use Rattle.lines.specs.Line.{eventOf}
 use Rattle.lines.specs.Log.{linesOf}
 use Rattle.trace.specs.declared.Record.{Record}
-use Rattle.trace.specs.Trace.{Trace, Answer, next, refused, noTrace, apply, applyTo, step, steps}
+use Rattle.trace.specs.Trace.{Trace, Answer, next, refused, noTrace, apply, read, steps}
 use Rattle.trace.specs.Record.{recordOf}
 use Rattle.trace.specs.Replay.{replayed}
 use Rattle.trace.proofs.ReadBack.{Leaves, accepted-leaves, read-back}
 use Rattle.trace.proofs.Taken.{step-lines}
-use Rattle.trace.proofs.Grown.{step-is}
 use Rattle.rules.specs.declared.Rule.{Rule}
 use Rattle.rules.specs.declared.RuleRead.{RuleRead}
 use Rattle.rules.specs.declared.RuleRead.the-variants as RuleRead
@@ -35,21 +34,19 @@ use Rattle.monitor.specs.Line.{refusing, lineAfter, stateOf, withRule, lineOf}
 use Rattle.monitor.specs.Tally.{refusingWith, counts?, talliedAfter, talliedState, talliedOf}
 use Rattle.monitor.specs.Log.{notRead, linesFrom, logOf}
 use Rattle.monitor.proofs.Lines.{by-answer, from-taken, from-refused}
+use Rattle.monitor.proofs.LogMeans.{same-trace, after-line, no-line}
 use Rattle.claims.specs.WhereMet.{MetLine, line-short, line-rule, line-unknown, line-refused, MetTallied, tallied-short, tallied-rule, tallied-unknown, tallied-wrong, tallied-refused, MetLog, log-short-work, log-short-verdicts, log-rule, log-refused}
-use Rattle.claims.proofs.Stops.{same-refusal, not-judged, End, same-ending, Stopped, stops}
+use Rattle.claims.proofs.Stops.{same-refusal, not-judged, End, same-ending, Stopped, stops, start-of, start-accepted, start-divides, start-number}
 
 -- ── one record, one trace ──
 replay-is : (r : Record) (t : Trace) → Leaves t → r ≡ recordOf t → replayed r (r .lines .0) ≡ next t
 unfolding recordOf
 replay-is r t l e = ap (λ (x : Record). replayed x (x .lines .0)) e ∙ read-back l
 
-same-next : (t u : Trace) → next t ≡ next u → t ≡ u
-same-next t u e = cc
-
 -- all lines that leave a record leave one trace
-same-trace : (r : Record) (w log log′ : List ℕ) (t u : Trace) → Left log t r w → Left log′ u r w → t ≡ u
-same-trace r w log log′ t u a b =
-    same-next t u (sym (replay-is r t (accepted-leaves log t (a .accepted)) (a .encoded)) ∙ replay-is r u (accepted-leaves log′ u (b .accepted)) (b .encoded))
+one-trace : (r : Record) (w log log′ : List ℕ) (t u : Trace) → Left log t r w → Left log′ u r w → t ≡ u
+one-trace r w log log′ t u a b =
+    same-trace t u (sym (replay-is r t (accepted-leaves log t (a .accepted)) (a .encoded)) ∙ replay-is r u (accepted-leaves log′ u (b .accepted)) (b .encoded))
 
 -- ── one line ──
 -- no accepted lines leave the record and the pair bytes
@@ -78,7 +75,7 @@ module _ (file : List ℕ) (r : Record) (w line : List ℕ) where
     unfolding stateOf lineAfter
     state-refused none h log t l c e = absurd (h log t l)
     state-refused (some u) h log t l c e =
-        let p : apply u (eventOf line) ≡ refused c = ap (λ (z : Trace). apply z (eventOf line)) (same-trace r w (h .0) log u t (h .1) l) ∙ e in
+        let p : apply u (eventOf line) ≡ refused c = ap (λ (z : Trace). apply z (eventOf line)) (one-trace r w (h .0) log u t (h .1) l) ∙ e in
         ap (λ (a : Answer). lineAfter file x u w a .0 .outcome) p
 
   -- 20, then the rule
@@ -155,14 +152,14 @@ module _ (file : List ℕ) (r : Record) (y : Tally) (w line : List ℕ) where
     tally-wrong : (k : Option Trace) → HandedBy r w k → (log : List ℕ) (t : Trace) → Left log t r w
         → counts? t y ≡ false → talliedState file x r y w line k .0 .outcome ≡ Refused 24
     tally-wrong none h log t l b = absurd (h log t l)
-    tally-wrong (some u) h log t l b = of-wrong u (ap (λ (z : Trace). counts? z y) (same-trace r w (h .0) log u t (h .1) l) ∙ b)
+    tally-wrong (some u) h log t l b = of-wrong u (ap (λ (z : Trace). counts? z y) (one-trace r w (h .0) log u t (h .1) l) ∙ b)
 
     tally-refused : (k : Option Trace) → HandedBy r w k → (log : List ℕ) (t : Trace) → Left log t r w
         → counts? t y ≡ true → (c : ℕ) → apply t (eventOf line) ≡ refused c → talliedState file x r y w line k .0 .outcome ≡ Refused c
     unfolding talliedAfter
     tally-refused none h log t l b c e = absurd (h log t l)
     tally-refused (some u) h log t l b c e =
-        let s : u ≡ t = same-trace r w (h .0) log u t (h .1) l in
+        let s : u ≡ t = one-trace r w (h .0) log u t (h .1) l in
         of-right u (ap (λ (z : Trace). counts? z y) s ∙ b) (refused c) (ap (λ (z : Trace). apply z (eventOf line)) s ∙ e)
 
   -- 20, then the rule
@@ -208,30 +205,21 @@ tallied-met file r y w line k h c = (forth, back)
     back (tallied-wrong g log t l b e) = rule (g .long) _ (g .taken) ∙ (tally-wrong file r y w line (g .rule) k (h g) log t l b ∙ ap Refused (sym e))
     back (tallied-refused g log t l b e) = rule (g .long) _ (g .taken) ∙ tally-refused file r y w line (g .rule) k (h g) log t l b c e
 
--- ── a whole log ──
-refused-stays : (c : ℕ) (ls : List (List ℕ)) → steps (refused c) ls ≡ refused c
-unfolding step applyTo
-refused-stays c [] = refl
-refused-stays c (l ∷ ls) = refused-stays c ls
-
-not-next : {C : Type 0} (c : ℕ) (t : Trace) → refused c ≡ next t → C
-not-next c t e = absurd (let z : _≡_ {A = ℕ} 0 1 = cc in omega arith)
-
 module _ (file : List ℕ) (x : Rule) (w : List ℕ) (line : List ℕ) (after : List (List ℕ)) (t : Trace) (c : ℕ) (e : apply t (eventOf line) ≡ refused c) where
   -- the lines from s on stop at the line that is refused
   from-stop : (before : List (List ℕ)) (s : Trace) (out : List ℕ) (n : ℕ) → steps (next s) before ≡ next t → n ≡ s .lines + length before + 1
       → linesFrom file x s (before ++ (line ∷ after)) w out .0 .ending ≡ Ending.Refused c n
   from-stop [] s out n p m =
-      let q : apply s (eventOf line) ≡ refused c = ap (λ (z : Trace). apply z (eventOf line)) (same-next s t p) ∙ e in
+      let q : apply s (eventOf line) ≡ refused c = ap (λ (z : Trace). apply z (eventOf line)) (same-trace s t p) ∙ e in
       let k : s .lines + 1 ≡ n = omega (arith, m) in
       ap (λ (a : End). a .0 .ending) (from-refused file x s line after w out c q) ∙ ap (Ending.Refused c) k
   from-stop (l ∷ ls) s out n p m =
       by-answer s l
       (λ u q.
-      let v : steps (next u) ls ≡ next t = ap (λ (a : Answer). steps a ls) (sym (step-is s l ∙ q)) ∙ p in
+      let v = after-line s u t l ls q p in
       let k = step-lines s u (eventOf l) q in
       ap (λ (a : End). a .0 .ending) (from-taken file x s l (ls ++ (line ∷ after)) w out u q) ∙ from-stop ls u _ n v (omega (arith, m, k)))
-      (λ d q. not-next d t (sym (refused-stays d ls) ∙ (ap (λ (a : Answer). steps a ls) (sym (step-is s l ∙ q)) ∙ p)))
+      (λ d q. no-line s t d l ls q p)
 
 module _ (w out : List ℕ) where
   abbrev Short : Type 0
@@ -258,7 +246,7 @@ module _ (w out : List ℕ) where
         simp b (ap (λ (z : RuleRead). logRule z .0 .ending) e)
 
 pub log-met : (file log w out : List ℕ) (c n : ℕ) → (logOf file log w out .0 .ending ≡ Ending.Refused c n) ↔ MetLog file log w out c n
-unfolding logRule withRule
+unfolding logRule withRule read
 log-met file log w out c n = (forth, back)
   where
     short : Short w out → logOf file log w out .0 .ending ≡ Ending.Refused 20 0
@@ -267,13 +255,13 @@ log-met file log w out c n = (forth, back)
     rule : 16384 ≤ length w → 256 ≤ length out → (q : RuleRead) → ruleOf file ≡ q → logOf file log w out .0 .ending ≡ logRule w out file log q .0 .ending
     rule = log-by-rule w out file log
 
-    read : 16384 ≤ length w → 256 ≤ length out → (q : RuleRead) → ruleOf file ≡ q → logOf file log w out .0 .ending ≡ Ending.Refused c n → MetLog file log w out c n
-    read s v (RuleRead.Refused m) q e =
+    reading : 16384 ≤ length w → 256 ≤ length out → (q : RuleRead) → ruleOf file ≡ q → logOf file log w out .0 .ending ≡ Ending.Refused c n → MetLog file log w out c n
+    reading s v (RuleRead.Refused m) q e =
         let p = same-ending c m n 0 (sym (rule s v _ q) ∙ e) in
         log-rule s v (q ∙ ap RuleRead.Refused (p .0)) (sym (p .1))
-    read s v (RuleRead.Rule x) q e =
+    reading s v (RuleRead.Rule x) q e =
         let g : Stopped file x w noTrace (linesOf log) out c n = stops file x w (linesOf log) noTrace out c n (sym (rule s v _ q) ∙ e) in
-        log-refused s v x q (g .before) (g .line) (g .after) (g .trace) (g .lines) (g .leaves) (omega (arith, g .at, g .counted)) (g .why)
+        log-refused s v x q (start-of file x w (linesOf log) out c n g) (g .line) (g .after) (g .trace) (start-divides file x w (linesOf log) out c n g) (start-accepted file x w (linesOf log) out c n g) (start-number file x w (linesOf log) out c n g) (g .why)
 
     forth : logOf file log w out .0 .ending ≡ Ending.Refused c n → MetLog file log w out c n
     forth e =
@@ -282,7 +270,7 @@ log-met file log w out c n = (forth, back)
         (λ s.
         either-lt (length out) 256
         (λ v. let p = same-ending c 20 n 0 (sym (short (short-verdicts w out v)) ∙ e) in log-short-verdicts v (sym (p .0)) (sym (p .1)))
-        (λ v. read s v (ruleOf file) refl e))
+        (λ v. reading s v (ruleOf file) refl e))
 
     back : MetLog file log w out c n → logOf file log w out .0 .ending ≡ Ending.Refused c n
     back (log-short-work s e m) = short (short-work w out s) ∙ (λ i. Ending.Refused (sym e i) (sym m i))
@@ -290,4 +278,4 @@ log-met file log w out c n = (forth, back)
     back (log-rule s v q m) = rule s v _ q ∙ ap (Ending.Refused c) (sym m)
     back (log-refused s v x q before line after t ls p m e) =
         rule s v _ q
-        ∙ (ap (λ (z : List (List ℕ)). linesFrom file x noTrace z w out .0 .ending) ls ∙ from-stop file x w line after t c e before noTrace out n p (omega (arith, m)))
+        ∙ (ap (λ (z : List (List ℕ)). linesFrom file x noTrace z w out .0 .ending) ls ∙ from-stop file x w line after t c e (linesOf before) noTrace out n (p .leaves) (omega (arith, m)))

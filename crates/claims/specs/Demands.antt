@@ -1,8 +1,8 @@
 -- The three demands, as three statements. They speak of the definitions to which the calls' contracts equate their answers and
 -- the contents of every lent buffer: `lineOf` (`monitor::check_line`), `talliedOf` (`monitor::check_line_tallied`), `logOf`
--- (`monitor::check_log`), `composeOf` (`relations::compose`). That a call ends and does nothing undefined is proved of every function.
--- Demand 1 is here of the three calls of `monitor`. The refusals of starting a record (20), relating (21 to 23) and composing (14) are
--- said by the contracts of those calls, and not on this page.
+-- (`monitor::check_log`), `startOf` (`pairs::start_record`), `composedOf` and `composeOf` (`relations::compose`), `conversedOf`
+-- (`relations::converse`); of `relations::relate` they speak by its contract `Relating`. That a call ends and does nothing undefined
+-- is proved of every function.
 use Prim.Native.Nat.{ℕ, _+_, _≤_, _<_}
 use mathlib.Core.Path.{_≡_}
 use mathlib.Core.Logic.{_↔_}
@@ -13,10 +13,19 @@ use lib.ListN.{length}
 use Rattle.lines.specs.Line.{eventOf}
 use Rattle.lines.specs.Log.{linesOf}
 use Rattle.trace.specs.declared.Record.{Record}
-use Rattle.trace.specs.Trace.{Trace, next, refused, noTrace, apply, steps, runAt, Accepted}
+use Rattle.trace.specs.declared.RunNo.{RunNo}
+use Rattle.trace.specs.Trace.{Trace, refused, apply, runAt, Accepted}
 use Rattle.pairs.specs.Pairs.{pairByte, workOf}
 use Rattle.pairs.specs.Word.{nameOf, wordOf}
+use Rattle.pairs.specs.Start.{startOf}
+use Rattle.pairs.specs.declared.Start.the-variants as Start
+use Rattle.relations.specs.declared.Related.{Related}
+use Rattle.relations.specs.declared.Related.the-variants as Related
+use Rattle.relations.specs.declared.Composed.the-variants as Composed
+use Rattle.relations.specs.Sets.{conversedOf}
+use Rattle.relations.specs.Runs.{Relating}
 use Rattle.relations.specs.Pairs.{Noted}
+use Rattle.relations.specs.Compose.{composedOf}
 use Rattle.relations.specs.Compose as Compose
 use Rattle.rules.specs.declared.Rule.{Rule}
 use Rattle.rules.specs.declared.RuleRead.the-variants as RuleRead
@@ -25,13 +34,12 @@ use Rattle.logic.specs.declared.Verdict.{Verdict}
 use Rattle.logic.specs.Verdict.{verdictOf, Says}
 use Rattle.monitor.specs.declared.Outcome.the-variants.{Refused}
 use Rattle.monitor.specs.declared.Ending.the-variants as Ending
-use Rattle.monitor.specs.declared.Checked.{Checked}
 use Rattle.monitor.specs.declared.Tally.{Tally}
 use Rattle.monitor.specs.Handed.{Left, HandedBy, Reached}
 use Rattle.monitor.specs.Line.{judged, refusing, lineOf, TakenLine}
-use Rattle.monitor.specs.Tally.{counts?, untallied, refusingWith, talliedOf}
-use Rattle.monitor.specs.Log.{ended, notRead, linesFrom, logOf, LogMeans}
-use Rattle.claims.specs.WhereMet.{MetLine, MetTallied, MetLog}
+use Rattle.monitor.specs.Tally.{counts?, refusingWith, talliedOf, TalliedMeans}
+use Rattle.monitor.specs.Log.{ended, notRead, logOf, LogMeans}
+use Rattle.claims.specs.WhereMet.{MetLine, MetTallied, MetLog, MetRelate, MetCompose}
 
 -- ── demand 1 ──
 -- "Each refusal is on the numbered list"
@@ -42,12 +50,12 @@ Listed c = (1 ≤ c) × (c ≤ 24)
 -- first line that meets a refusal, and the record, the work area and the verdict bytes are those that the lines before it leave.
 pub data LogRefused (file log w out : List ℕ) (c n : ℕ) : Type 0 where
   unread : n ≡ 0 → logOf file log w out ≡ (notRead c, w, out) → LogRefused file log w out c n
-  stopped : (x : Rule) (before : List (List ℕ)) (line : List ℕ) (after : List (List ℕ)) (t : Trace) (out′ : List ℕ)
+  stopped : (x : Rule) (before line : List ℕ) (after : List (List ℕ)) (t : Trace) (out′ : List ℕ)
       → ruleOf file ≡ RuleRead.Rule x
-      → linesOf log ≡ before ++ (line ∷ after)
-      → steps (next noTrace) before ≡ next t → n ≡ length before + 1
+      → linesOf log ≡ linesOf before ++ (line ∷ after)
+      → Accepted before t → n ≡ length (linesOf before) + 1
       → apply t (eventOf line) ≡ refused c
-      → linesFrom file x noTrace before w out ≡ (ended t Ending.Read, workOf (t .runs) w, out′)
+      → logOf file before w out ≡ (ended t Ending.Read, workOf (t .runs) w, out′)
       → logOf file log w out ≡ (ended t (Ending.Refused c n), workOf (t .runs) w, out′)
       → LogRefused file log w out c n
 
@@ -65,6 +73,13 @@ pub record Demand1 : Type 0 where
   pub tallied-met : (file : List ℕ) (r : Record) (y : Tally) (w line : List ℕ) (k : Option Trace) → (Reached file w → HandedBy r w k) → (c : ℕ)
       → (talliedOf file r y w line k .0 .outcome ≡ Refused c) ↔ MetTallied file r y w line c
   pub log-met : (file log w out : List ℕ) (c n : ℕ) → (logOf file log w out .0 .ending ≡ Ending.Refused c n) ↔ MetLog file log w out c n
+  -- starting a record: 20, and then the work area is as it was
+  pub start-met : (w : List ℕ) (c : ℕ) → (startOf w .0 .outcome ≡ Start.Refused c) ↔ ((length w < 16384) × (c ≡ 20))
+  pub start : (w : List ℕ) (c : ℕ) → startOf w .0 .outcome ≡ Start.Refused c → startOf w .1 ≡ w
+  -- relating two runs, and sets of relations: no buffer is lent
+  pub relate-met : (r : Record) (a b : RunNo) (v : Related) → Relating r a b v → (c : ℕ) → (v ≡ Related.Refused c) ↔ MetRelate r (a .0) (b .0) c
+  pub compose-met : (a b c : ℕ) → (composedOf a b ≡ Composed.Refused c) ↔ MetCompose a b c
+  pub converse-met : (a c : ℕ) → (conversedOf a ≡ Composed.Refused c) ↔ ((63 < a) × (c ≡ 14))
 
 -- ── demand 2 ──
 -- "After every accepted line, the relation noted for each pair of runs is the one that their line positions give, and the verdict is
@@ -83,9 +98,9 @@ pub record Demand2 : Type 0 where
   pub line : (file : List ℕ) (x : Rule) → ruleOf file ≡ RuleRead.Rule x → (log : List ℕ) (t : Trace) (r : Record) (w line : List ℕ) → Left log t r w
       → (v : Verdict) → lineOf file r w line (some t) .0 .outcome ≡ judged v
       → TakenLine file x log line w v (lineOf file r w line (some t) .0 .state) (lineOf file r w line (some t) .1)
-  -- the call with a tally answers the same
-  pub tallied : (file : List ℕ) (r : Record) (y : Tally) (w line : List ℕ) (t : Trace) → counts? t y ≡ true
-      → _≡_ {A = Checked × List ℕ} (untallied (talliedOf file r y w line (some t) .0), talliedOf file r y w line (some t) .1) (lineOf file r w line (some t))
+  -- the call with a tally answers the same, and the tally of the log becomes that of the log with the line
+  pub tallied : (file : List ℕ) (x : Rule) → ruleOf file ≡ RuleRead.Rule x → (log : List ℕ) (t : Trace) (r : Record) (y : Tally) (w line : List ℕ) → Left log t r w
+      → counts? t y ≡ true → TalliedMeans file x log t r y w line (talliedOf file r y w line (some t) .0) (talliedOf file r y w line (some t) .1)
   -- and so after every line of a whole log, up to the first that is refused: its verdict byte, and at the end the record and the pair bytes
   pub log : (file : List ℕ) (x : Rule) → ruleOf file ≡ RuleRead.Rule x → (log w out : List ℕ) → 16384 ≤ length w → 256 ≤ length out
       → LogMeans file x log w out (logOf file log w out .0) (logOf file log w out .1) (logOf file log w out .2)

@@ -1,4 +1,4 @@
--- Where each refusal is met: for each of the three calls, what makes it answer the number c. "Order: 20; then the rule from its
+-- Where each refusal is met: for each call, what makes it answer the number c. "Order: 20; then the rule from its
 -- front ..; then 21; 24; then the line": each case can only be met where no number before it is.
 use Prim.Native.Nat.{ℕ, _+_, _≤_, _<_}
 use mathlib.Core.Path.{_≡_}
@@ -8,7 +8,9 @@ use lib.ListN.{length}
 use Rattle.lines.specs.Line.{eventOf}
 use Rattle.lines.specs.Log.{linesOf}
 use Rattle.trace.specs.declared.Record.{Record}
-use Rattle.trace.specs.Trace.{Trace, next, refused, noTrace, apply, steps}
+use Rattle.trace.specs.Trace.{Trace, refused, apply, Accepted}
+use Rattle.trace.specs.Record.{recordOf, Valid}
+use Rattle.relations.specs.Runs.{FinishedRun}
 use Rattle.rules.specs.declared.Rule.{Rule}
 use Rattle.rules.specs.declared.RuleRead.the-variants as RuleRead
 use Rattle.rules.specs.Rules.{ruleOf}
@@ -41,10 +43,23 @@ pub data MetLog (file log w out : List ℕ) (c n : ℕ) : Type 0 where
   log-short-work : length w < 16384 → c ≡ 20 → n ≡ 0 → MetLog file log w out c n
   log-short-verdicts : length out < 256 → c ≡ 20 → n ≡ 0 → MetLog file log w out c n
   log-rule : 16384 ≤ length w → 256 ≤ length out → ruleOf file ≡ RuleRead.Refused c → n ≡ 0 → MetLog file log w out c n
-  -- the lines before it are taken, and it is refused after them
+  -- the lines before it are an accepted log, and it is refused after them
   log-refused : 16384 ≤ length w → 256 ≤ length out → (x : Rule) → ruleOf file ≡ RuleRead.Rule x
-      → (before : List (List ℕ)) (line : List ℕ) (after : List (List ℕ)) (t : Trace)
-      → linesOf log ≡ before ++ (line ∷ after)
-      → steps (next noTrace) before ≡ next t → n ≡ length before + 1
+      → (before line : List ℕ) (after : List (List ℕ)) (t : Trace)
+      → linesOf log ≡ linesOf before ++ (line ∷ after)
+      → Accepted before t → n ≡ length (linesOf before) + 1
       → apply t (eventOf line) ≡ refused c
       → MetLog file log w out c n
+
+-- relating runs a and b of a record: "21 (of the record alone), 22, 23"
+pub data MetRelate (r : Record) (a b c : ℕ) : Type 0 where
+  relate-unknown : (Valid r → ⊥) → c ≡ 21 → MetRelate r a b c
+  -- "22 a run number with no finished run"
+  relate-unfinished : (log : List ℕ) (t : Trace) → Accepted log t → r ≡ recordOf t → (FinishedRun t a × FinishedRun t b → ⊥) → c ≡ 22 → MetRelate r a b c
+  -- "23 the same finished run twice"
+  relate-same : (log : List ℕ) (t : Trace) → Accepted log t → r ≡ recordOf t → FinishedRun t a → a ≡ b → c ≡ 23 → MetRelate r a b c
+
+-- composing: "14 a relation set above 63"
+pub data MetCompose (a b c : ℕ) : Type 0 where
+  first-above : 63 < a → c ≡ 14 → MetCompose a b c
+  second-above : 63 < b → c ≡ 14 → MetCompose a b c

@@ -7,12 +7,10 @@ use native.Mathlib.Omega.{arith}
 use lib.ListN.{length}
 use lib.Dec.{eqb}
 use borrow.Author.Tests.{eq-eqb, le-leb}
-use Rattle.lists.proofs.Lists.{append-nil}
 use Rattle.lines.specs.Line.{eventOf}
 use Rattle.lines.specs.Log.{linesOf}
 use Rattle.trace.specs.Trace.{Trace, Answer, next, refused, noTrace, apply, read, steps, Accepted}
-use Rattle.trace.proofs.Taken.{not-taken}
-use Rattle.trace.proofs.Grown.{accepted-lines, said-whole, whole-first}
+use Rattle.trace.proofs.Grown.{accepted-lines}
 use Rattle.rules.specs.declared.Rule.{Rule}
 use Rattle.rules.specs.Rules.{formulaOf}
 use Rattle.logic.specs.declared.Verdict.{Verdict}
@@ -22,7 +20,7 @@ use Rattle.monitor.specs.declared.Tally.{Tally}
 use Rattle.monitor.specs.Log.{byAnswer}
 use Rattle.monitor.specs.Tally.{tallyOf, failed, counts?, failingFrom, tallyAfter, finishedRuns}
 use Rattle.monitor.proofs.Lines.{by-answer}
-use Rattle.monitor.proofs.LogMeans.{same-trace, after-line, no-line, lines-counted}
+use Rattle.monitor.proofs.LogMeans.{same-trace, after-line, no-line, line-alone, lines-counted}
 
 failed-most : (v : Verdict) → failed v ≤ 1
 failed-most Verdict.Holds = omega arith
@@ -78,9 +76,6 @@ module _ (file : List ℕ) (x : Rule) where
         → tallyOf u (tallyAfter file x log t .failing + failed (verdictOf u (formulaOf file x))) ≡ tallyAfter file x (log ++ line) u
     unfolding tallyAfter tallyOf read apply
     tally-goes-on line u p =
-        let w : linesOf (log ++ line) ≡ linesOf log ++ (line ∷ []) = accepted-lines log t a line ∙ ap (λ (k : List (List ℕ)). linesOf log ++ k) (line-alone line u p) in
+        let w : linesOf (log ++ line) ≡ linesOf log ++ (line ∷ []) = accepted-lines log t a line ∙ ap (λ (k : List (List ℕ)). linesOf log ++ k) (line-alone t u line p) in
         let f = fails-more (linesOf log) noTrace t u line (a .leaves) p in
         ap (tallyOf u) (sym (ap (failingFrom file x noTrace) w ∙ f))
-      where
-        line-alone : (line : List ℕ) (u : Trace) → apply t (eventOf line) ≡ next u → linesOf line ≡ line ∷ []
-        line-alone line u p = ap linesOf (sym (append-nil line)) ∙ whole-first line (said-whole line (λ f. not-taken 11 u (ap (apply t) (sym f) ∙ p))) []

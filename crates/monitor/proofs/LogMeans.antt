@@ -12,8 +12,8 @@ use Rattle.lines.specs.Line.{eventOf}
 use Rattle.lines.specs.Log.{linesOf}
 use Rattle.trace.specs.Trace.{Trace, Answer, next, refused, noTrace, apply, steps, Accepted}
 use Rattle.trace.specs.Record.{recordOf}
-use Rattle.trace.proofs.Taken.{not-taken, step-lines}
-use Rattle.trace.proofs.Grown.{step-is, taken-grows, no-bytes, flat, flat-lines}
+use Rattle.trace.proofs.Taken.{not-taken, refused-stays, step-lines}
+use Rattle.trace.proofs.Grown.{step-is, taken-grows, no-bytes, flat, flat-lines, said-whole, whole-first, lines-more, all-whole}
 use Rattle.trace.proofs.Bounds.{accepted-bounded}
 use Rattle.pairs.specs.Pairs.{workOf}
 use Rattle.rules.specs.declared.Rule.{Rule}
@@ -29,7 +29,7 @@ use Rattle.monitor.specs.Repeated.{Result}
 use Rattle.monitor.proofs.LineMeans.{verdict-says}
 use Rattle.monitor.proofs.LineCall.{with-taken}
 use Rattle.monitor.proofs.Lines.{by-answer, from-none, from-taken, from-refused}
-use Rattle.monitor.proofs.Prefixes.{stays-refused, line-byte}
+use Rattle.monitor.proofs.Prefixes.{line-byte}
 
 -- ── lines that are taken ──
 pub same-trace : (t u : Trace) → next t ≡ next u → t ≡ u
@@ -40,7 +40,7 @@ pub after-line : (t v u : Trace) (l : List ℕ) (ls : List (List ℕ)) → apply
 after-line t v u l ls p e = ap (λ (a : Answer). steps a ls) (sym (step-is t l ∙ p)) ∙ e
 
 pub no-line : {C : Type 0} (t u : Trace) (c : ℕ) (l : List ℕ) (ls : List (List ℕ)) → apply t (eventOf l) ≡ refused c → steps (next t) (l ∷ ls) ≡ next u → C
-no-line t u c l ls p e = not-taken c u (sym (stays-refused c ls) ∙ (ap (λ (a : Answer). steps a ls) (sym (step-is t l ∙ p)) ∙ e))
+no-line t u c l ls p e = not-taken c u (sym (refused-stays c ls) ∙ (ap (λ (a : Answer). steps a ls) (sym (step-is t l ∙ p)) ∙ e))
 
 pub lines-accepted : (ls : List (List ℕ)) (log : List ℕ) (s : Trace) → Accepted log s → (u : Trace) → steps (next s) ls ≡ next u → Accepted (log ++ flat ls) u
 lines-accepted [] log s a u e = subst (λ (v : Trace). Accepted (log ++ []) v) (same-trace s u e) (subst (λ (l : List ℕ). Accepted l s) (sym (append-nil log)) a)
@@ -50,6 +50,15 @@ lines-accepted (l ∷ ls) log s a u e =
     subst (λ (m : List ℕ). Accepted m u) (append-assoc log l (flat ls))
     (lines-accepted ls (log ++ l) v (taken-grows log s a l v p) u (after-line s v u l ls p e)))
     (λ c p. no-line s u c l ls p e)
+
+-- a taken line is one line
+pub line-alone : (t u : Trace) (l : List ℕ) → apply t (eventOf l) ≡ next u → linesOf l ≡ l ∷ []
+unfolding apply
+line-alone t u l p = ap linesOf (sym (append-nil l)) ∙ whole-first l (said-whole l (λ f. not-taken 11 u (ap (apply t) (sym f) ∙ p))) []
+
+-- the bytes of taken lines have just these lines
+pub taken-lines : (ls : List (List ℕ)) (t u : Trace) → steps (next t) ls ≡ next u → linesOf (flat ls) ≡ ls
+taken-lines ls t u e = ap linesOf (sym (append-nil (flat ls))) ∙ (lines-more ls [] (all-whole t u ls e) ∙ append-nil ls)
 
 pub lines-counted : (ls : List (List ℕ)) (t u : Trace) → steps (next t) ls ≡ next u → u .lines ≡ t .lines + length ls
 lines-counted [] t u e = let s = same-trace t u e in let z : u .lines ≡ t .lines = ap (λ (v : Trace). v .lines) (sym s) in omega arith
@@ -161,14 +170,15 @@ module _ (file log w out : List ℕ) (a : LogChecked) (v o : List ℕ) (answer :
         go (at before l after u b d e r s q) =
             let f = same-refusal c b n (u .lines + 1) (sym (ap (λ (b : LogChecked). b .ending) (answered ∙ s)) ∙ m) in
             let g : u .lines ≡ 0 + length before = lines-counted before noTrace u e in
+            let b : linesOf (flat before) ≡ before = taken-lines before noTrace u e in
             record {
-              before = before;
+              before = flat before;
               last = l;
               after = after;
               trace = u;
-              lines = d;
-              leaves = e;
-              number = omega (arith, f .1, g);
+              accepted = lines-accepted before [] noTrace no-bytes u e;
+              lines = d ∙ ap (λ (k : List (List ℕ)). k ++ (l ∷ after)) (sym b);
+              number = omega (arith, f .1, g, ap length b);
               why = r ∙ ap refused (f .0);
               state = ap (λ (b : LogChecked). b .state) (answered ∙ s);
               pairs = ap (λ (b : Result). b .1) is ∙ q;

@@ -10,7 +10,7 @@ use Rattle.lists.proofs.Lists.{append-nil}
 use Rattle.lines.specs.Line.{eventOf}
 use Rattle.lines.specs.Log.{linesOf}
 use Rattle.trace.specs.Trace.{Trace, Answer, next, refused, noTrace, apply, applyTo, step, steps, read, Accepted}
-use Rattle.trace.proofs.Taken.{not-taken, step-lines}
+use Rattle.trace.proofs.Taken.{not-taken, refused-stays, step-lines}
 use Rattle.trace.proofs.Grown.{step-is, taken-grows, no-bytes, flat}
 use Rattle.rules.specs.declared.Rule.{Rule}
 use Rattle.rules.specs.Rules.{formulaOf}
@@ -18,11 +18,6 @@ use Rattle.logic.specs.Verdict.{verdictByte, verdictOf}
 use Rattle.monitor.specs.Log.{linesFrom}
 use Rattle.monitor.specs.Repeated.{Result}
 use Rattle.monitor.proofs.Lines.{from-none, from-taken, from-refused, by-answer}
-
-pub stays-refused : (c : ℕ) (ls : List (List ℕ)) → steps (refused c) ls ≡ refused c
-unfolding step applyTo
-stays-refused c [] = refl
-stays-refused c (l ∷ ls) = stays-refused c ls
 
 module _ (file : List ℕ) (x : Rule) (w : List ℕ) where
   -- the verdict buffer after the lines
@@ -69,7 +64,7 @@ module _ (file : List ℕ) (x : Rule) (w : List ℕ) where
       ∙ (ap (λ (j : ℕ). getD (bytesFrom v ls (set out (t .lines) (byteOf v))) j 0) i ∙ line-byte k ls v (set out (t .lines) (byteOf v)) u (omega arith) q r))
       (λ c p.
       let q : steps (refused c) (take (suc k) ls) ≡ next u = ap (λ (a : Answer). steps a (take (suc k) ls)) (sym (step-is t l ∙ p)) ∙ e in
-      not-taken c u (sym (stays-refused c (take (suc k) ls)) ∙ q))
+      not-taken c u (sym (refused-stays c (take (suc k) ls)) ∙ q))
 
 -- ── prefixes ──
 -- the first k lines of lines that are taken are taken
@@ -83,7 +78,7 @@ prefix-taken (suc k) (l ∷ ls) log s a t e =
     let q : step (next s) l ≡ next v = step-is s l ∙ p in
     let h = prefix-taken k ls (log ++ l) v (taken-grows log s a l v p) t (ap (λ (b : Answer). steps b ls) (sym q) ∙ e) in
     (h .0, ap (λ (b : Answer). steps b (take k ls)) q ∙ h .1, subst (λ (m : List ℕ). Accepted m (h .0)) (append-assoc log l (flat (take k ls))) (h .2)))
-    (λ c p. not-taken c t (sym (stays-refused c ls) ∙ (ap (λ (b : Answer). steps b ls) (sym (step-is s l ∙ p)) ∙ e)))
+    (λ c p. not-taken c t (sym (refused-stays c ls) ∙ (ap (λ (b : Answer). steps b ls) (sym (step-is s l ∙ p)) ∙ e)))
 
 -- the log of the first k lines
 abbrev pub prefix : ℕ → List ℕ → List ℕ

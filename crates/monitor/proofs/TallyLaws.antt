@@ -34,11 +34,13 @@ use Rattle.monitor.specs.declared.Tally.{Tally}
 use Rattle.monitor.specs.declared.Tallied.{Tallied}
 use Rattle.monitor.specs.Handed.{Left, HandedBy, Reached}
 use Rattle.monitor.specs.Line.{judged, refusing, lineAfter, stateOf, withRule, lineOf, LineMeans}
-use Rattle.monitor.specs.Tally.{finishedRuns, tallyOf, failed, TallyCounts, untallied, TalliedMeans, beginsRun, endsRun, beginLines, endLines, counts?, refusingWith, talliedAfter, talliedState, talliedOf, ChecksTallied}
+use Rattle.monitor.specs.Tally.{finishedRuns, tallyOf, failed, TallyCounts, untallied, TalliedMeans, beginsRun, endsRun, beginLines, endLines, counts?, refusingWith, talliedAfter, talliedState, talliedOf, tallyAfter, ChecksTallied}
 use Rattle.monitor.proofs.Known.{pairs-long}
 use Rattle.monitor.proofs.LineMeans.{judged-same, judged-taken, line-means}
 use Rattle.monitor.proofs.LineCall.{with-taken}
 use Rattle.monitor.proofs.Tallies.{finished-same, finished-most}
+use Rattle.monitor.proofs.LogMeans.{same-trace}
+use Rattle.monitor.proofs.Failing.{tally-goes-on}
 
 -- ── the counts are those of the lines ──
 -- a taken line is a begin line with one run more, or an end line with one finished run more
@@ -89,26 +91,26 @@ module _ (file : List ℕ) (r : Record) (y : Tally) (w line : List ℕ) where
       by-rule (RuleRead.Refused n) = refl
 
   -- so its answer means the same
-  module _ (a : Tallied) (v : List ℕ) (answer : (k : Option Trace) → (Reached file w → HandedBy r w k) → _≡_ {A = Tallied × List ℕ} (a, v) (talliedOf file r y w line k)) where
-    line-part-means : (x : Rule) → ruleOf file ≡ RuleRead.Rule x → (log : List ℕ) (t : Trace) → Left log t r w → counts? t y ≡ true → LineMeans file x log t r w line (untallied a) v
+  module _ (x : Rule) (rule : ruleOf file ≡ RuleRead.Rule x) (log : List ℕ) (t : Trace) (l : Left log t r w) (p : counts? t y ≡ true) (a : Tallied) (v : List ℕ) (answer : _≡_ {A = Tallied × List ℕ} (a, v) (talliedOf file r y w line (some t))) where
+    long : 16384 ≤ length w
+    long = pairs-long (t .runs) w w (l .pairs)
+
+    line-part-means : LineMeans file x log t r w line (untallied a) v
     unfolding lineOf stateOf
-    line-part-means x rule log t l p =
-        let long : 16384 ≤ length w = pairs-long (t .runs) w w (l .pairs) in
-        let e : _≡_ {A = Checked × List ℕ} (untallied a, v) (lineOf file r w line (some t)) = ap line-part (answer (some t) (λ _. (log, l))) ∙ tallied-is-line t p in
+    line-part-means =
+        let e : _≡_ {A = Checked × List ℕ} (untallied a, v) (lineOf file r w line (some t)) = ap line-part answer ∙ tallied-is-line t p in
         let s : lineOf file r w line (some t) ≡ stateOf file x r w line (some t) = simp (le-ltb (length w) 16384 long) (with-taken (ruleOf file) x _ _ rule) in
         line-means file x t w line (untallied a) v (e ∙ s) (reads-rule file (RuleRead.Rule x) (sym rule) .taken x refl) log r (l .accepted) (l .encoded)
 
-    answer-is : (x : Rule) → ruleOf file ≡ RuleRead.Rule x → (log : List ℕ) (t : Trace) → Left log t r w → counts? t y ≡ true
-        → _≡_ {A = Tallied × List ℕ} (a, v) (talliedAfter file x t y w (apply t (eventOf line)))
+    answer-is : _≡_ {A = Tallied × List ℕ} (a, v) (talliedAfter file x t y w (apply t (eventOf line)))
     unfolding talliedOf talliedState
-    answer-is x rule log t l p =
-        let long : 16384 ≤ length w = pairs-long (t .runs) w w (l .pairs) in
+    answer-is =
         let s : talliedOf file r y w line (some t) ≡ talliedState file x r y w line (some t) = simp (le-ltb (length w) 16384 long) (with-taken (ruleOf file) x _ _ rule) in
-        answer (some t) (λ _. (log, l)) ∙ (s ∙ simp p)
+        answer ∙ (s ∙ simp p)
 
-    pub tallied-means : (x : Rule) → ruleOf file ≡ RuleRead.Rule x → (log : List ℕ) (t : Trace) → Left log t r w → counts? t y ≡ true → TalliedMeans file x log t r y w line a v
+    pub tallied-means : TalliedMeans file x log t r y w line a v
     unfolding talliedAfter tallyOf
-    tallied-means x rule log t l p = go (apply t (eventOf line)) refl (answer-is x rule log t l p)
+    tallied-means = go (apply t (eventOf line)) refl answer-is
       where
         go : (n : Answer) → apply t (eventOf line) ≡ n → _≡_ {A = Tallied × List ℕ} (a, v) (talliedAfter file x t y w n) → TalliedMeans file x log t r y w line a v
         go (next u) q e =
@@ -116,19 +118,25 @@ module _ (file : List ℕ) (r : Record) (y : Tally) (w line : List ℕ) where
             let o : a .outcome ≡ judged f = ap (λ (z : Tallied × List ℕ). z .0 .outcome) e in
             let c : a .tally ≡ tallyOf u (y .failing + failed f) = ap (λ (z : Tallied × List ℕ). z .0 .tally) e in
             record {
-              single = line-part-means x rule log t l p;
+              single = line-part-means;
               counts = λ d m. subst (TallyCounts (log ++ line)) (sym c) (accepted-tally (log ++ line) u (y .failing + failed f) (taken-grows log t (l .accepted) line u q));
               failing = λ d m. ap (λ (z : Tally). z .failing) c ∙ ap (λ (z : Verdict). y .failing + failed z) (judged-same f d (sym o ∙ m));
+              goes-on = λ s d m z b.
+              let grown : Accepted (log ++ line) u = taken-grows log t (l .accepted) line u q in
+              c ∙ (ap (λ (k : Tally). tallyOf u (k .failing + failed f)) s ∙ (tally-goes-on file x log t (l .accepted) line u q ∙ ap (tallyAfter file x (log ++ line)) (same-trace u z (sym (grown .leaves) ∙ b .leaves))));
               kept = λ d m. judged-taken f d (sym o ∙ m);
             }
         go (refused d) q e =
             let o : a .outcome ≡ Refused d = ap (λ (z : Tallied × List ℕ). z .0 .outcome) e in
             record {
-              single = line-part-means x rule log t l p;
+              single = line-part-means;
               counts = λ b m. judged-taken b d (sym m ∙ o);
               failing = λ b m. judged-taken b d (sym m ∙ o);
+              goes-on = λ s b m z k. judged-taken b d (sym m ∙ o);
               kept = λ b m. ap (λ (z : Tallied × List ℕ). z .0 .tally) e;
             }
 
-    pub checks-tallied : (Reached file w → (k : Option Trace) × HandedBy r w k) → ChecksTallied file r y w line a v
-    checks-tallied d = record { decided = d; answer = answer; meaning = tallied-means }
+  pub checks-tallied : (a : Tallied) (v : List ℕ) → ((k : Option Trace) → (Reached file w → HandedBy r w k) → _≡_ {A = Tallied × List ℕ} (a, v) (talliedOf file r y w line k))
+      → (Reached file w → (k : Option Trace) × HandedBy r w k) → ChecksTallied file r y w line a v
+  checks-tallied a v answer d =
+      record { decided = d; answer = answer; meaning = λ x rule log t l p. tallied-means x rule log t l p a v (answer (some t) (λ _. (log, l))) }

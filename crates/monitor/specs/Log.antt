@@ -57,15 +57,15 @@ pub record LogTaken (log w : List ℕ) (a : LogChecked) (w′ : List ℕ) : Type
   pub state : a .state ≡ recordOf trace
   pub pairs : w′ ≡ workOf (trace .runs) w
 
--- line n is refused with c, by its own bytes or by the lines before it, and these leave what is answered
+-- line n is refused with c, by its own bytes or by the lines before it; these are an accepted log, which leaves what is answered
 pub record LogStopped (log w : List ℕ) (c n : ℕ) (a : LogChecked) (w′ : List ℕ) : Type 0 where
-  pub before : List (List ℕ)
+  pub before : List ℕ
   pub last : List ℕ
   pub after : List (List ℕ)
   pub trace : Trace
-  pub lines : linesOf log ≡ before ++ (last ∷ after)
-  pub leaves : steps (next noTrace) before ≡ next trace
-  pub number : n ≡ length before + 1
+  pub accepted : Accepted before trace
+  pub lines : linesOf log ≡ linesOf before ++ (last ∷ after)
+  pub number : n ≡ length (linesOf before) + 1
   pub why : apply trace (eventOf last) ≡ refused c
   pub state : a .state ≡ recordOf trace
   pub pairs : w′ ≡ workOf (trace .runs) w

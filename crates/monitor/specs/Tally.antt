@@ -11,7 +11,7 @@ use Rattle.lines.specs.Line.{eventOf}
 use Rattle.lines.specs.Log.{linesOf}
 use Rattle.trace.specs.declared.Run.{Run}
 use Rattle.trace.specs.declared.Record.{Record}
-use Rattle.trace.specs.Trace.{Trace, Answer, next, refused, noTrace, apply, finish}
+use Rattle.trace.specs.Trace.{Trace, Answer, next, refused, noTrace, apply, finish, Accepted}
 use Rattle.trace.specs.Record.{recordOf}
 use Rattle.pairs.specs.Pairs.{workOf}
 use Rattle.rules.specs.declared.Rule.{Rule}
@@ -136,11 +136,13 @@ abbrev pub untallied : Tallied → Checked
 untallied a = record { state = a .state; outcome = a .outcome }
 
 -- what the answer says of the log, for a tally that has the record's counts: what that of the single-line call says; the counts are
--- those of the log with the line, and failing lines rise by 1 exactly if the verdict fails; a refused line leaves the tally
+-- those of the log with the line, and failing lines rise by 1 exactly if the verdict fails; the tally of the log becomes that of the
+-- log with the line; a refused line leaves the tally
 pub record TalliedMeans (file : List ℕ) (x : Rule) (log : List ℕ) (t : Trace) (r : Record) (y : Tally) (w line : List ℕ) (a : Tallied) (w′ : List ℕ) : Type 0 where
   pub single : LineMeans file x log t r w line (untallied a) w′
   pub counts : (v : Verdict) → a .outcome ≡ judged v → TallyCounts (log ++ line) (a .tally)
   pub failing : (v : Verdict) → a .outcome ≡ judged v → a .tally .failing ≡ y .failing + failed v
+  pub goes-on : y ≡ tallyAfter file x log t → (v : Verdict) → a .outcome ≡ judged v → (u : Trace) → Accepted (log ++ line) u → a .tally ≡ tallyAfter file x (log ++ line) u
   pub kept : (c : ℕ) → a .outcome ≡ Refused c → a .tally ≡ y
 
 -- the contract, for every input

@@ -5,10 +5,11 @@ use Prim.Native.Nat.{ℕ, _<_}
 use mathlib.Core.Path.{_≡_, refl, sym, ap, subst, _∙_}
 use mathlib.Core.Logic.{_≢_}
 use mathlib.Core.List.{List}
+use mathlib.Core.Bool.{true, false}
 use native.Mathlib.Omega.{arith}
 use borrow.Author.Tests.{eq-eqb, ne-eqb, lt-ltb, le-ltb}
 use lib.ListN.{length, getD, List·getD-eq-default}
-use Rattle.lists.proofs.Cases.{either-lt, either-eq}
+use Rattle.lists.proofs.Cases.{either-lt, either-eq, no-both}
 use Rattle.lists.proofs.Lists.{getD-pad}
 use Rattle.trace.specs.declared.Record.{Record}
 use Rattle.trace.specs.declared.RunNo.{RunNo}
@@ -146,13 +147,18 @@ module _ (r : Record) (a b : RunNo) where
   pub no-record : (Valid r → ⊥) → Relating r a b (Refused 21)
   no-record n =
       record {
+        decided = (false, record { yes = λ e. no-both (sym e); no = λ _. n });
         known = λ log t h e. absurd (n (record { log = log; trace = t; accepted = h; encoded = e }));
         unknown = λ _. refl;
       }
 
   of-record : (w : Related) → Valid r → ((t : Trace) → r ≡ recordOf t → w ≡ relateIn t (a .0) (b .0)) → Relating r a b w
   of-record w v says =
-      record { known = λ log t h e. answers log t h (a .0) (b .0) w (says t e); unknown = λ n. absurd (n v) }
+      record {
+        decided = (true, record { yes = λ _. v; no = λ e. no-both e });
+        known = λ log t h e. answers log t h (a .0) (b .0) w (says t e);
+        unknown = λ n. absurd (n v);
+      }
 
   -- a record keeps the runs of its log
   span-in : (t : Trace) (k : ℕ) (x : Span) → x ≡ spanOf (getD (r .runs .list) k noRun) → r ≡ recordOf t → x ≡ spanOf (runAt t k)

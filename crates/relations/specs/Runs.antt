@@ -6,6 +6,7 @@ use mathlib.Core.Bool.{Bool, _&&_, cond}
 use mathlib.Core.List.{List}
 use lib.Dec.{eqb, ltb}
 use lib.ListN.{length}
+use Rattle.lists.specs.Tells.{Tells}
 use Rattle.trace.specs.declared.Record.{Record}
 use Rattle.trace.specs.declared.Run.{Run}
 use Rattle.trace.specs.declared.RunNo.{RunNo}
@@ -59,8 +60,10 @@ pub record Answers (t : Trace) (a b : ℕ) (w : Related) : Type 0 where
   pub unfinished : (w ≡ Refused 22) ↔ (FinishedRun t a × FinishedRun t b → ⊥)
   pub same : (w ≡ Refused 23) ↔ (FinishedRun t a × (a ≡ b))
 
--- The relating call's answer, for any record: what it says of every accepted log that leaves the record, and 21 where none does.
+-- The relating call's answer, for any record: what it says of every accepted log that leaves the record, and 21 where none does;
+-- one or the other is the case.
 pub record Relating (r : Record) (a b : RunNo) (w : Related) : Type 0 where
+  pub decided : (k : Bool) × Tells k (Valid r)
   pub known : (log : List ℕ) (t : Trace) → Accepted log t → r ≡ recordOf t → Answers t (a .0) (b .0) w
   pub unknown : (Valid r → ⊥) → w ≡ Refused 21
 

@@ -1,0 +1,111 @@
+-- Demand 1 of the calls that take no line: starting a record, relating two runs, and sets of relations.
+use Prim.Native.Nat.{ℕ, _≤_, _<_}
+use mathlib.Core.Path.{_≡_, refl, ap, sym, _∙_}
+use mathlib.Core.Logic.{_↔_}
+use mathlib.Core.List.{List}
+use mathlib.Core.Bool.{Bool, true, false, _&&_, cond}
+use native.Mathlib.Omega.{arith}
+use lib.ListN.{length}
+use lib.Dec.{eqb}
+use borrow.Author.Tests.{lt-ltb, le-ltb, le-leb, lt-leb}
+use Rattle.lists.proofs.Cases.{either-lt, either-bool}
+use Rattle.trace.specs.declared.Record.{Record}
+use Rattle.trace.specs.declared.RunNo.{RunNo}
+use Rattle.trace.specs.Trace.{Trace}
+use Rattle.trace.specs.Record.{Valid}
+use Rattle.pairs.specs.Start.{startOf}
+use Rattle.pairs.specs.declared.Start.the-variants as Start
+use Rattle.relations.specs.declared.Related.{Related}
+use Rattle.relations.specs.declared.Related.the-variants as Related
+use Rattle.relations.specs.declared.Composed.the-variants as Composed
+use Rattle.relations.specs.Sets.{converseOf, conversedOf}
+use Rattle.relations.specs.Runs.{finished?, relationIn, relateIn, Answers, Relating}
+use Rattle.relations.specs.Compose.{composeOf, composedOf}
+use Rattle.claims.specs.WhereMet.{MetRelate, relate-unknown, relate-unfinished, relate-same, MetCompose, first-above, second-above}
+
+-- ── starting a record ──
+same-start : (c d : ℕ) → Start.Refused d ≡ Start.Refused c → d ≡ c
+same-start c d e = cc
+
+not-ready : {C : Type 0} (c : ℕ) → Start.Ready ≡ Start.Refused c → C
+not-ready c e = absurd (let z : _≡_ {A = ℕ} 0 1 = cc in omega arith)
+
+pub start-met : (w : List ℕ) (c : ℕ) → (startOf w .0 .outcome ≡ Start.Refused c) ↔ ((length w < 16384) × (c ≡ 20))
+unfolding startOf
+start-met w c = (forth, λ p. simp (lt-ltb (length w) 16384 (p .0)) (ap Start.Refused (sym (p .1))))
+  where
+    forth : startOf w .0 .outcome ≡ Start.Refused c → (length w < 16384) × (c ≡ 20)
+    forth = either-lt (length w) 16384 (λ s. simp (lt-ltb _ _ s) (λ e. (s, sym (same-start c 20 e)))) (λ s. simp (le-ltb _ _ s) (λ e. not-ready c e))
+
+pub start-kept : (w : List ℕ) (c : ℕ) → startOf w .0 .outcome ≡ Start.Refused c → startOf w .1 ≡ w
+unfolding startOf
+start-kept w c e = simp (lt-ltb (length w) 16384 (start-met w c .0 e .0))
+
+-- ── relating two runs ──
+same-related : (c d : ℕ) → Related.Refused d ≡ Related.Refused c → d ≡ c
+same-related c d e = cc
+
+not-related : {C : Type 0} (n c : ℕ) → Related.Relation n ≡ Related.Refused c → C
+not-related n c e = absurd (let z : _≡_ {A = ℕ} 0 1 = cc in omega arith)
+
+relate-number : {C : Type 0} (t : Trace) (a b c : ℕ) → relateIn t a b ≡ Related.Refused c → (c ≡ 22 → C) → (c ≡ 23 → C) → C
+unfolding relateIn
+relate-number {C} t a b c e f g = go (finished? t a && finished? t b) (eqb a b) e
+  where
+    go : (p q : Bool) → cond p (cond q (Related.Refused 23) (Related.Relation (relationIn t a b))) (Related.Refused 22) ≡ Related.Refused c → C
+    go false q e = f (sym (same-related c 22 e))
+    go true true e = g (sym (same-related c 23 e))
+    go true false e = not-related (relationIn t a b) c e
+
+pub relate-met : (r : Record) (a b : RunNo) (v : Related) → Relating r a b v → (c : ℕ) → (v ≡ Related.Refused c) ↔ MetRelate r (a .0) (b .0) c
+relate-met r a b v rel c = (λ e. either-bool (rel .decided .0) (λ d. known (rel .decided .1 .yes d) e) (λ d. unknown (rel .decided .1 .no d) e), back)
+  where
+    unknown : (Valid r → ⊥) → v ≡ Related.Refused c → MetRelate r (a .0) (b .0) c
+    unknown n e = relate-unknown n (sym (same-related c 21 (sym (rel .unknown n) ∙ e)))
+
+    known : Valid r → v ≡ Related.Refused c → MetRelate r (a .0) (b .0) c
+    known k e =
+        let s : Answers (k .trace) (a .0) (b .0) v = rel .known (k .log) (k .trace) (k .accepted) (k .encoded) in
+        relate-number (k .trace) (a .0) (b .0) c (sym (s .answer) ∙ e)
+        (λ n. relate-unfinished (k .log) (k .trace) (k .accepted) (k .encoded) (s .unfinished .0 (e ∙ ap Related.Refused n)) n)
+        (λ n. let q = s .same .0 (e ∙ ap Related.Refused n) in relate-same (k .log) (k .trace) (k .accepted) (k .encoded) (q .0) (q .1) n)
+
+    back : MetRelate r (a .0) (b .0) c → v ≡ Related.Refused c
+    back (relate-unknown n e) = rel .unknown n ∙ ap Related.Refused (sym e)
+    back (relate-unfinished log t k s f e) = rel .known log t k s .unfinished .1 f ∙ ap Related.Refused (sym e)
+    back (relate-same log t k s f q e) = rel .known log t k s .same .1 (f, q) ∙ ap Related.Refused (sym e)
+
+-- ── sets of relations ──
+same-composed : (c d : ℕ) → Composed.Refused d ≡ Composed.Refused c → d ≡ c
+same-composed c d e = cc
+
+not-composed : {C : Type 0} (s c : ℕ) → Composed.Set s ≡ Composed.Refused c → C
+not-composed s c e = absurd (let z : _≡_ {A = ℕ} 0 1 = cc in omega arith)
+
+pub compose-met : (a b c : ℕ) → (composedOf a b ≡ Composed.Refused c) ↔ MetCompose a b c
+compose-met a b c = (forth, back)
+  where
+    forth : composedOf a b ≡ Composed.Refused c → MetCompose a b c
+    forth =
+        either-lt 63 a
+        (λ s. simp (lt-leb a 63 s) (λ e. first-above s (sym (same-composed c 14 e))))
+        (λ s.
+        either-lt 63 b
+        (λ q. simp (le-leb a 63 s, lt-leb b 63 q) (λ e. second-above q (sym (same-composed c 14 e))))
+        (λ q. simp (le-leb a 63 s, le-leb b 63 q) (λ e. not-composed (composeOf a b) c e)))
+
+    back : MetCompose a b c → composedOf a b ≡ Composed.Refused c
+    back (first-above s e) = simp (lt-leb a 63 s) (ap Composed.Refused (sym e))
+    back (second-above q e) =
+        either-lt 63 a
+        (λ s. simp (lt-leb a 63 s) (ap Composed.Refused (sym e)))
+        (λ s. simp (le-leb a 63 s, lt-leb b 63 q) (ap Composed.Refused (sym e)))
+
+pub converse-met : (a c : ℕ) → (conversedOf a ≡ Composed.Refused c) ↔ ((63 < a) × (c ≡ 14))
+converse-met a c = (forth, λ p. simp (lt-leb a 63 (p .0)) (ap Composed.Refused (sym (p .1))))
+  where
+    forth : conversedOf a ≡ Composed.Refused c → (63 < a) × (c ≡ 14)
+    forth =
+        either-lt 63 a
+        (λ s. simp (lt-leb a 63 s) (λ e. (s, sym (same-composed c 14 e))))
+        (λ s. simp (le-leb a 63 s) (λ e. not-composed (converseOf a) c e))

@@ -1,19 +1,14 @@
 -- Demand 2: what is noted and said after every accepted line.
-use Prim.Native.Nat.{ℕ, suc, _+_, _≤_, _<_}
-use mathlib.Core.Path.{_≡_, refl, ap, sym, _∙_, subst}
+use Prim.Native.Nat.{ℕ, _≤_}
+use mathlib.Core.Path.{_≡_, refl, ap, sym, _∙_}
 use mathlib.Core.List.{List, [], _∷_}
 use mathlib.Core.Option.{some}
-use native.Mathlib.Omega.{arith}
-use lib.ListN.{length, getD, take}
+use lib.ListN.{length}
 use borrow.Author.Tests.{lt-ltb, le-ltb}
 use Rattle.lists.proofs.Cases.{either-lt}
 use Rattle.lines.specs.Log.{linesOf}
 use Rattle.trace.specs.declared.Record.{Record}
-use Rattle.trace.specs.Trace.{Trace, Answer, next, noTrace, read, steps, Accepted}
-use Rattle.trace.proofs.Taken.{not-taken}
-use Rattle.trace.proofs.Grown.{step-is, no-bytes}
-use Rattle.trace.proofs.Bounds.{accepted-bounded}
-use Rattle.pairs.specs.Pairs.{workOf}
+use Rattle.trace.specs.Trace.{Trace, next, noTrace, read, steps, Accepted}
 use Rattle.pairs.proofs.Accepted.{pair-byte-names-the-order}
 use Rattle.relations.proofs.Pairs.{pair-byte-noted}
 use Rattle.rules.specs.declared.Rule.{Rule}
@@ -21,11 +16,10 @@ use Rattle.rules.specs.declared.RuleRead.the-variants as RuleRead
 use Rattle.rules.specs.Rules.{ruleOf, formulaOf, Taken}
 use Rattle.rules.proofs.Rules.{reads-rule}
 use Rattle.logic.specs.declared.Verdict.{Verdict}
-use Rattle.logic.specs.Verdict.{verdictByte, verdictOf}
+use Rattle.logic.specs.Verdict.{verdictOf}
 use Rattle.monitor.specs.declared.Ending.the-variants as Ending
 use Rattle.monitor.specs.Handed.{Left}
 use Rattle.monitor.specs.Line.{judged, stateOf, lineOf, TakenLine}
-use Rattle.monitor.specs.Tally.{tallyOf}
 use Rattle.monitor.specs.Log.{ended, linesFrom, logOf}
 use Rattle.monitor.specs.Repeated.{Result}
 use Rattle.monitor.proofs.LineMeans.{judged-taken, verdict-says, line-means}

@@ -2,14 +2,12 @@
 -- `h` is the first place of a label (below 128), `lb i` the label of number i (from 1), `pl p` the number at place p (0: empty).
 use Prim.Native.Nat.{ℕ, zero, suc, _+_, _-_, _%_, _<_, _≤_}
 use mathlib.Core.Path.{_≡_, refl, ap, sym, _∙_}
-use mathlib.Core.List.{List, [], _∷_}
-use mathlib.Core.Bool.{Bool, true, false, cond}
+use mathlib.Core.Bool.{false, cond}
 use native.Mathlib.Omega.{arith}
 use lib.Dec.{eqb}
 use borrow.Author.Tests.{eq-eqb, ne-eqb}
 use Rattle.labels.specs.declared.Label.{Label}
-use Rattle.labels.specs.declared.Slot.{Slot}
-use Rattle.labels.specs.declared.Slot.the-variants.{Seen, Free, Full}
+use Rattle.labels.specs.declared.Slot.the-variants.{Seen, Free}
 use Rattle.labels.specs.Label.{sameLabel}
 use Rattle.labels.specs.Table.{probe}
 use Rattle.lists.proofs.Cases.{either-eq, either-bool}

@@ -2,7 +2,7 @@
 use Prim.Native.Nat.{ℕ, zero, suc, _+_, _-_, _<_, _≤_}
 use mathlib.Core.Path.{_≡_, refl, ap, sym, _∙_}
 use mathlib.Core.List.{List, [], _∷_, _++_}
-use mathlib.Core.Bool.{Bool, true, false, cond, _&&_}
+use mathlib.Core.Bool.{Bool, true, false, _&&_}
 use native.Mathlib.Omega.{arith}
 use native.Mathlib.Numerals.{add-one}
 use lib.Dec.{eqb, leb, ltb}
@@ -12,7 +12,7 @@ use borrow.Author.Tests.{eq-eqb, ne-eqb, le-leb, lt-leb, leb-true, lt-ltb, le-lt
 use Rattle.lists.specs.Lists.{pad, all?, same?}
 use Rattle.lists.specs.Tells.{Tells}
 use Rattle.lists.proofs.Cases.{either-eq, either-lt, either-bool, no-both, and-left, and-right}
-use Rattle.lists.proofs.Tells.{tell-no, tell-yes}
+use Rattle.lists.proofs.Tells.{tell-no}
 use Rattle.lists.proofs.Lists.{same-refl, same-eq, set-pad}
 use Rattle.labels.specs.declared.Label.{Label}
 use Rattle.labels.specs.Label.{letter?, label?, labelOf, text, noLabel, sameLabel, soundFrom, byteSound, sound?}

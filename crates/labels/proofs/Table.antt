@@ -3,14 +3,14 @@
 use Prim.Native.Nat.{ℕ, zero, suc, _+_, _-_, _%_, _<_, _≤_}
 use mathlib.Core.Path.{_≡_, refl, ap, sym, _∙_, subst}
 use mathlib.Core.List.{List, [], _∷_, _++_}
-use mathlib.Core.Bool.{Bool, true, false, cond}
+use mathlib.Core.Bool.{Bool, true, false}
 use native.Mathlib.Omega.{arith}
-use lib.Dec.{eqb, leb, ltb}
+use lib.Dec.{eqb, leb}
 use borrow.Author.Tests.{eq-eqb, ne-eqb, le-leb, lt-leb, leb-false, lt-ltb, le-ltb}
 use lib.ListN.{length, getD, set, replicate, length-set, length-append, length-replicate, List·getD-append, List·getD-eq-default, getD-replicate}
 use lib.Seq.{getD-set-same, getD-set-other, getD-at}
 use Rattle.lists.specs.Lists.{pad}
-use Rattle.lists.proofs.Cases.{no-both, either-eq, either-lt, either-bool}
+use Rattle.lists.proofs.Cases.{either-eq, either-lt, either-bool}
 use Rattle.lists.specs.Tells.{Tells}
 use Rattle.lists.proofs.Tells.{tell-no, tell-by}
 use Rattle.lists.proofs.Lists.{set-pad}
@@ -18,7 +18,7 @@ use Rattle.labels.specs.declared.Label.{Label}
 use Rattle.labels.specs.declared.LabelNo.{LabelNo}
 use Rattle.labels.specs.declared.LabelTable.{LabelTable}
 use Rattle.labels.specs.declared.Slot.{Slot}
-use Rattle.labels.specs.declared.Slot.the-variants.{Seen, Free, Full}
+use Rattle.labels.specs.declared.Slot.the-variants.{Seen, Free}
 use Rattle.labels.specs.Label.{noLabel, absent, labelNo, sameLabel}
 use Rattle.labels.specs.Table.{indexOf, numberOf, withLabel, labelAt, Distinct, firstPlace, placeAt, freeFrom, freePlace, insert, insertAll, placesOf, tableOf, probe, lookup, slotOf, Readable, FindsLabel, AddsLabel, putLabel}
 use Rattle.labels.proofs.Same.{label-eq, label-refl}

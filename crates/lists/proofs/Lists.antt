@@ -1,12 +1,12 @@
 -- Laws of lists that the kit lacks: padding, bytes that occur or not, two arrays compared.
-use Prim.Native.Nat.{ℕ, zero, suc, _+_, _-_, _<_, _≤_}
+use Prim.Native.Nat.{ℕ, suc, _+_, _-_, _<_, _≤_}
 use mathlib.Core.Path.{_≡_, refl, ap, sym, _∙_, subst}
 use mathlib.Core.Logic.{_≢_}
 use mathlib.Core.List.{List, [], _∷_, _++_, append-assoc, map}
-use mathlib.Core.Bool.{Bool, true, false, _&&_, _||_}
+use mathlib.Core.Bool.{Bool, true, false}
 use native.Mathlib.Omega.{arith}
-use lib.ListN.{length, getD, set, take, drop, replicate, length-append, length-map, length-replicate, getD-replicate, List·getD-append, List·getD-eq-default}
-use lib.Seq.{set-append-seam, take-append-seam, getD-append-add, set-append-left, ext-getD}
+use lib.ListN.{length, getD, set, take, replicate, length-append, length-map, length-replicate, getD-replicate, List·getD-append, List·getD-eq-default}
+use lib.Seq.{set-append-seam, take-append-seam, getD-append-add, ext-getD}
 use borrow.Author.Tests.{eq-eqb, ne-eqb}
 use lib.Dec.{eqb}
 use Rattle.lists.specs.Lists.{pad, all?, has?, upTo, past, same?}

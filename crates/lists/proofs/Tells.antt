@@ -1,5 +1,5 @@
 -- Tests that decide: made, and carried from one claim to another.
-use mathlib.Core.Path.{_≡_, sym}
+use mathlib.Core.Path.{sym}
 use mathlib.Core.Bool.{Bool, true, false}
 use Rattle.lists.specs.Tells.{Tells}
 use Rattle.lists.proofs.Cases.{no-both}

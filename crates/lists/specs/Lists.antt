@@ -5,7 +5,7 @@ use mathlib.Core.List.{List, [], _∷_, _++_}
 use lib.Dec.{eqb, ltb}
 use lib.ListN.{length, replicate}
 use Prim.Native.String.{String, [] as none, _∷_ as _◂_}
-use Prim.Native.Char.{Char, code}
+use Prim.Native.Char.{code}
 
 -- the list, filled up with d to n elements
 unfoldable pub pad : {A : Type 0} → A → ℕ → List A → List A

@@ -4,17 +4,17 @@ use mathlib.Core.Path.{_≡_, refl, sym, subst, ap, _∙_}
 use mathlib.Core.Bool.{Bool, true, false, not, _&&_, _||_}
 use mathlib.Core.List.{List}
 use native.Mathlib.Omega.{arith}
-use lib.Dec.{eqb, ltb}
-use lib.ListN.{length, List·getD-eq-default}
+use lib.Dec.{eqb}
+use lib.ListN.{length}
 use borrow.Author.Tests.{ltb-true, ltb-false, eqb-true, eqb-false}
 use Rattle.lists.specs.Lists.{same?}
 use Rattle.lists.specs.Tells.{Tells}
-use Rattle.lists.proofs.Cases.{either-eq, either-lt, no-both}
+use Rattle.lists.proofs.Cases.{either-eq, no-both}
 use Rattle.lists.proofs.Tells.{tell-no, tell-yes, tell-by}
 use Rattle.lists.proofs.Lists.{same-refl, same-eq}
 use Rattle.labels.specs.Label.{text}
 use Rattle.labels.specs.Table.{labelAt}
-use Rattle.trace.specs.Trace.{Trace, noRun, runAt, start, finish, Finished}
+use Rattle.trace.specs.Trace.{Trace, runAt, start, finish}
 use Rattle.relations.specs.Relation as Relation
 use Rattle.relations.specs.Runs.{FinishedRun, finished?}
 use Rattle.relations.proofs.Relation.{relates-tells}

@@ -1,7 +1,7 @@
 -- What the class is taught. An open run changes no verdict: "some" ranges over finished runs, and whatever a variable stands for
 -- inside it has the same label and the same lines before and after a begin line. Two runs without labels are never the same. And
 -- a verdict is not for good: each later line can change it.
-use Prim.Native.Nat.{ℕ, zero, suc, _+_, _-_, _<_}
+use Prim.Native.Nat.{ℕ, zero, suc, _+_, _<_}
 use mathlib.Core.Path.{_≡_, refl, sym, ap, ap₂, subst, _∙_}
 use mathlib.Core.Logic.{_↔_}
 use mathlib.Core.Bool.{Bool, true, false, not, _&&_, cond}

@@ -3,21 +3,21 @@
 -- the same end.
 use Prim.Native.Nat.{ℕ, zero, suc, _+_, _-_, _<_, _≤_}
 use mathlib.Core.Path.{_≡_, refl, ap, sym, _∙_, subst}
-use mathlib.Core.Bool.{Bool, true, false, cond, _||_}
+use mathlib.Core.Bool.{cond, _||_}
 use mathlib.Core.List.{List, [], _∷_, _++_}
 use native.Mathlib.Omega.{arith}
 use lib.Dec.{eqb, ltb}
-use lib.ListN.{length, take, drop, set, length-take, length-drop}
+use lib.ListN.{length, take, drop, set, length-take}
 use lib.Seq.{take-add, take-take, take-nil, drop-nil}
 use borrow.Author.Tests.{lt-ltb, le-ltb}
-use Rattle.lists.proofs.Cases.{either-lt, either-bool}
+use Rattle.lists.proofs.Cases.{either-lt}
 use Rattle.lines.specs.Event.{faulty}
 use Rattle.lines.specs.Line.{eventOf}
 use Rattle.lines.specs.Log.{linesOf, scan, nextLine}
 use Rattle.lines.specs.declared.Next.{Next}
 use Rattle.lines.specs.declared.Next.the-variants as Next
 use Rattle.lines.proofs.Log.{Handed, line-is-handed-out, done-means-no-lines, Spoilt, refused-line-is-faulty}
-use Rattle.trace.specs.Trace.{Trace, next, refused, noTrace, apply, Accepted}
+use Rattle.trace.specs.Trace.{Trace, noTrace, apply, Accepted}
 use Rattle.trace.proofs.Grown.{taken-grows, no-bytes}
 use Rattle.trace.proofs.Size.{accepted-short}
 use Rattle.pairs.specs.Pairs.{workOf}
@@ -29,7 +29,7 @@ use Rattle.monitor.specs.Line.{withRule}
 use Rattle.monitor.specs.Log.{ended, notRead, linesFrom, logOf}
 use Rattle.monitor.specs.Repeated.{Result}
 use Rattle.monitor.specs.Reading.{lineBetween}
-use Rattle.monitor.proofs.Lines.{from-none, from-taken, from-refused, by-answer}
+use Rattle.monitor.proofs.Lines.{from-taken, from-refused, by-answer}
 
 -- ── what is looked at ──
 drop-take : (p m : ℕ) (l : List ℕ) → drop p (take m l) ≡ take (m - p) (drop p l)

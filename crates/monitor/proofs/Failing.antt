@@ -9,14 +9,13 @@ use lib.Dec.{eqb}
 use borrow.Author.Tests.{eq-eqb, le-leb}
 use Rattle.lines.specs.Line.{eventOf}
 use Rattle.lines.specs.Log.{linesOf}
-use Rattle.trace.specs.Trace.{Trace, Answer, next, refused, noTrace, apply, read, steps, Accepted}
+use Rattle.trace.specs.Trace.{Trace, Answer, next, noTrace, apply, read, steps, Accepted}
 use Rattle.trace.proofs.Grown.{accepted-lines}
 use Rattle.rules.specs.declared.Rule.{Rule}
 use Rattle.rules.specs.Rules.{formulaOf}
 use Rattle.logic.specs.declared.Verdict.{Verdict}
 use Rattle.logic.specs.declared.Verdict.the-variants as Verdict
 use Rattle.logic.specs.Verdict.{verdictOf}
-use Rattle.monitor.specs.declared.Tally.{Tally}
 use Rattle.monitor.specs.Log.{byAnswer}
 use Rattle.monitor.specs.Tally.{tallyOf, failed, counts?, failingFrom, tallyAfter, finishedRuns}
 use Rattle.monitor.proofs.Lines.{by-answer}

@@ -1,7 +1,7 @@
 -- What an answer of the inner step means, from its equation: a taken line makes the log longer by that line, and the verdict says
 -- whether the rule is true of the longer log; a refused line changes nothing. A rule that is taken is closed, so its verdict does
 -- not depend on a binding.
-use Prim.Native.Nat.{ℕ, _≤_}
+use Prim.Native.Nat.{ℕ}
 use mathlib.Core.Path.{_≡_, refl, ap, sym, _∙_, subst}
 use mathlib.Core.List.{List}
 use native.Mathlib.Omega.{arith}
@@ -12,17 +12,15 @@ use Rattle.trace.specs.Record.{recordOf}
 use Rattle.trace.proofs.Grown.{taken-grows}
 use Rattle.pairs.specs.Pairs.{workOf}
 use Rattle.rules.specs.declared.Rule.{Rule}
-use Rattle.rules.specs.Formula.{Formula}
 use Rattle.rules.specs.Rules.{formulaOf, Taken}
 use Rattle.logic.specs.declared.Verdict.{Verdict}
 use Rattle.logic.specs.declared.Verdict.the-variants as Verdict
 use Rattle.logic.specs.Model.{eval, modelOf}
 use Rattle.logic.specs.Verdict.{verdictOf, Says}
 use Rattle.logic.proofs.Judged.{closed-says}
-use Rattle.monitor.specs.declared.Outcome.{Outcome}
 use Rattle.monitor.specs.declared.Outcome.the-variants.{Holds, Fails, Refused}
 use Rattle.monitor.specs.declared.Checked.{Checked}
-use Rattle.monitor.specs.Line.{judged, refusing, lineAfter, advanceOf, LineMeans}
+use Rattle.monitor.specs.Line.{judged, lineAfter, advanceOf, LineMeans}
 
 -- ── outcomes ──
 pub judged-same : (v y : Verdict) → judged v ≡ judged y → v ≡ y

@@ -3,7 +3,7 @@
 use Prim.Native.Nat.{ℕ, _+_}
 use mathlib.Core.Path.{_≡_, refl, ap, sym, _∙_}
 use mathlib.Core.List.{List, [], _∷_, _++_}
-use lib.ListN.{length, drop, set}
+use lib.ListN.{drop, set}
 use lib.Seq.{drop-at}
 use Rattle.lines.specs.Line.{eventOf}
 use Rattle.trace.specs.declared.Run.{Run}

@@ -21,7 +21,6 @@ use Rattle.rules.specs.declared.RuleRead.the-variants as RuleRead
 use Rattle.rules.specs.Rules.{ruleOf, formulaOf}
 use Rattle.rules.proofs.Rules.{reads-rule}
 use Rattle.logic.specs.Verdict.{verdictByte, verdictOf}
-use Rattle.monitor.specs.declared.Ending.{Ending}
 use Rattle.monitor.specs.declared.Ending.the-variants.{Read, Refused}
 use Rattle.monitor.specs.declared.LogChecked.{LogChecked}
 use Rattle.monitor.specs.Log.{ended, linesFrom, logOf, LogTaken, LogStopped, LogMeans, ChecksLog}

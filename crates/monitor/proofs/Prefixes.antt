@@ -1,6 +1,6 @@
 -- A log's verdicts are those of its prefixes: the verdict byte of line k + 1 is the verdict of what the first k + 1 lines leave.
 -- Each line stores its byte at the count of the lines before it, and no later line touches it.
-use Prim.Native.Nat.{ℕ, zero, suc, _+_, _<_, _≤_}
+use Prim.Native.Nat.{ℕ, zero, suc, _+_, _<_}
 use mathlib.Core.Path.{_≡_, refl, ap, sym, _∙_, subst}
 use mathlib.Core.List.{List, [], _∷_, _++_, append-assoc}
 use native.Mathlib.Omega.{arith}
@@ -9,7 +9,7 @@ use lib.Seq.{getD-set-same, getD-set-other}
 use Rattle.lists.proofs.Lists.{append-nil}
 use Rattle.lines.specs.Line.{eventOf}
 use Rattle.lines.specs.Log.{linesOf}
-use Rattle.trace.specs.Trace.{Trace, Answer, next, refused, noTrace, apply, applyTo, step, steps, read, Accepted}
+use Rattle.trace.specs.Trace.{Trace, Answer, next, refused, noTrace, apply, step, steps, read, Accepted}
 use Rattle.trace.proofs.Taken.{not-taken, refused-stays, step-lines}
 use Rattle.trace.proofs.Grown.{step-is, taken-grows, no-bytes, flat}
 use Rattle.rules.specs.declared.Rule.{Rule}

@@ -6,10 +6,9 @@ use mathlib.Core.List.{List, [], _∷_, _++_}
 use mathlib.Core.Option.{some}
 use lib.ListN.{length, set}
 use borrow.Author.Tests.{le-ltb}
-use Rattle.lines.specs.Line.{eventOf}
 use Rattle.lines.specs.Log.{linesOf}
 use Rattle.trace.specs.declared.Record.{Record}
-use Rattle.trace.specs.Trace.{Trace, next, refused, noTrace, apply, Accepted}
+use Rattle.trace.specs.Trace.{Trace, noTrace, Accepted}
 use Rattle.trace.specs.Record.{recordOf}
 use Rattle.trace.proofs.Grown.{taken-grows, no-bytes}
 use Rattle.pairs.specs.Pairs.{workOf}
@@ -20,10 +19,10 @@ use Rattle.logic.specs.declared.Verdict.{Verdict}
 use Rattle.logic.specs.Verdict.{verdictByte, verdictOf}
 use Rattle.monitor.specs.declared.Outcome.the-variants as Outcome
 use Rattle.monitor.specs.declared.Checked.{Checked}
-use Rattle.monitor.specs.declared.Ending.the-variants.{Read, Refused}
+use Rattle.monitor.specs.declared.Ending.the-variants.{Refused}
 use Rattle.monitor.specs.Handed.{Left}
-use Rattle.monitor.specs.Line.{judged, stateOf, lineOf, advanceOf, ChecksLine}
-use Rattle.monitor.specs.Log.{ended, linesFrom, logOf}
+use Rattle.monitor.specs.Line.{stateOf, lineOf, advanceOf, ChecksLine}
+use Rattle.monitor.specs.Log.{linesFrom, logOf}
 use Rattle.monitor.specs.Repeated.{Result, endedAt, Repeats}
 use Rattle.monitor.proofs.Settled.{work-long}
 use Rattle.monitor.proofs.LineMeans.{judged-same, judged-taken, by-line}

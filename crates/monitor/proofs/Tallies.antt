@@ -2,12 +2,12 @@
 -- them up from the front.
 use Prim.Native.Nat.{ℕ, _+_, _-_, _<_, _≤_}
 use mathlib.Core.Path.{_≡_, refl, ap, sym, _∙_}
-use mathlib.Core.Bool.{Bool, true, false, cond, _&&_}
+use mathlib.Core.Bool.{Bool, true, false, cond}
 use mathlib.Core.List.{List, [], _∷_}
 use native.Mathlib.Omega.{arith}
 use native.Mathlib.Numerals.{add-one}
 use lib.Dec.{eqb, leb}
-use lib.ListN.{length, getD, take, drop, drop-of-length-le}
+use lib.ListN.{length, getD, drop, drop-of-length-le}
 use lib.Seq.{drop-cons, getD-take}
 use borrow.Author.Tests.{eq-eqb, ne-eqb, leb-true, eqb-true}
 use Rattle.lists.proofs.Cases.{and-left, and-right}
@@ -24,7 +24,6 @@ use Rattle.logic.specs.declared.Verdict.the-variants as Verdict
 use Rattle.monitor.specs.declared.Outcome.the-variants.{Holds, Fails, Refused}
 use Rattle.monitor.specs.declared.Checked.{Checked}
 use Rattle.monitor.specs.declared.Tally.{Tally}
-use Rattle.monitor.specs.declared.Tallied.{Tallied}
 use Rattle.monitor.specs.Line.{judged}
 use Rattle.monitor.specs.Tally.{finishedRuns, tallyOf, failed, counts?, refusingWith, CountsRecord, MatchesRecord, CountsLine}
 use Rattle.monitor.proofs.Settled.{held-runs}

@@ -1,33 +1,27 @@
 -- The single-line call with a tally, by its ways out: those of the single-line call, a tally that has not the record's counts, and
 -- the inner step with the counts of the record that it leaves.
-use Prim.Native.Nat.{ℕ, _+_, _<_, _≤_}
-use mathlib.Core.Path.{_≡_, refl, ap, sym, _∙_, subst}
-use mathlib.Core.Bool.{Bool, true, false, not, cond}
+use Prim.Native.Nat.{ℕ, _<_, _≤_}
+use mathlib.Core.Path.{_≡_, ap, sym, _∙_}
+use mathlib.Core.Bool.{Bool, true, false, not}
 use mathlib.Core.List.{List}
 use mathlib.Core.Option.{Option, none, some}
-use native.Mathlib.Omega.{arith}
 use lib.ListN.{length}
 use borrow.Author.Tests.{lt-ltb, le-ltb, not-true, not-false}
 use Rattle.lists.specs.Tells.{Tells}
-use Rattle.lines.specs.Line.{eventOf}
 use Rattle.trace.specs.declared.Record.{Record}
-use Rattle.trace.specs.Trace.{Trace, Answer, next, refused, apply}
-use Rattle.trace.specs.Record.{recordOf}
+use Rattle.trace.specs.Trace.{Trace}
 use Rattle.trace.proofs.Bounds.{accepted-bounded}
-use Rattle.pairs.specs.Pairs.{workOf}
 use Rattle.rules.specs.declared.Rule.{Rule}
 use Rattle.rules.specs.declared.RuleRead.{RuleRead}
 use Rattle.rules.specs.declared.RuleRead.the-variants as RuleRead
 use Rattle.rules.specs.Rules.{ruleOf, formulaOf, ReadsRule}
-use Rattle.logic.specs.declared.Verdict.{Verdict}
 use Rattle.logic.specs.Verdict.{verdictOf}
 use Rattle.monitor.specs.declared.Checked.{Checked}
 use Rattle.monitor.specs.declared.Tally.{Tally}
 use Rattle.monitor.specs.declared.Tallied.{Tallied}
-use Rattle.monitor.specs.Handed.{Left, Standing, HandedBy, Reached}
-use Rattle.monitor.specs.Line.{judged, withRule}
+use Rattle.monitor.specs.Handed.{Standing, HandedBy, Reached}
 use Rattle.monitor.specs.Step.{Advances}
-use Rattle.monitor.specs.Tally.{tallyOf, failed, counts?, refusingWith, MatchesRecord, CountsLine, AdvancesTallied, talliedAfter, talliedState, talliedOf, ChecksTallied}
+use Rattle.monitor.specs.Tally.{counts?, refusingWith, MatchesRecord, CountsLine, AdvancesTallied, talliedAfter, talliedState, talliedOf, ChecksTallied}
 use Rattle.monitor.proofs.Known.{standing-fits}
 use Rattle.monitor.proofs.LineMeans.{by-line}
 use Rattle.monitor.proofs.LineCall.{with-refused, with-taken, no-rule, standing-of, not-reached}

@@ -1,24 +1,22 @@
 -- What a tally says of the lines: its counts are those of the begin and end lines of the log, and the call with a tally answers what
 -- the single-line call answers.
-use Prim.Native.Nat.{ℕ, _+_, _-_, _≤_}
+use Prim.Native.Nat.{ℕ, _+_, _≤_}
 use mathlib.Core.Path.{_≡_, refl, ap, sym, _∙_, subst}
-use mathlib.Core.Bool.{Bool, true, false, cond}
-use mathlib.Core.List.{List, [], _∷_, _++_}
-use mathlib.Core.Option.{Option, none, some}
+use mathlib.Core.Bool.{true}
+use mathlib.Core.List.{List, _++_}
+use mathlib.Core.Option.{Option, some}
 use native.Mathlib.Omega.{arith}
 use lib.Dec.{ltb}
 use lib.ListN.{length}
 use borrow.Author.Tests.{le-ltb}
 use Rattle.lists.proofs.Cases.{either-bool}
 use Rattle.labels.specs.Label.{labelOf}
-use Rattle.lines.specs.Event.{Event, begins, ends, faulty}
 use Rattle.lines.specs.Line.{eventOf}
 use Rattle.lines.specs.Log.{linesOf}
 use Rattle.trace.specs.declared.Record.{Record}
-use Rattle.trace.specs.Trace.{Trace, Answer, next, refused, noTrace, apply, Accepted}
-use Rattle.trace.specs.Record.{recordOf}
+use Rattle.trace.specs.Trace.{Trace, Answer, next, refused, apply, Accepted}
 use Rattle.trace.proofs.Taken.{event-taken, step-lines}
-use Rattle.trace.proofs.Finished.{finishedIn, Counts, begin-counts, end-counts}
+use Rattle.trace.proofs.Finished.{Counts, begin-counts, end-counts}
 use Rattle.trace.proofs.Grown.{taken-grows}
 use Rattle.trace.proofs.Induction.{accepted-keeps}
 use Rattle.rules.specs.declared.Rule.{Rule}
@@ -122,8 +120,8 @@ module _ (file : List ℕ) (r : Record) (y : Tally) (w line : List ℕ) where
               counts = λ d m. subst (TallyCounts (log ++ line)) (sym c) (accepted-tally (log ++ line) u (y .failing + failed f) (taken-grows log t (l .accepted) line u q));
               failing = λ d m. ap (λ (z : Tally). z .failing) c ∙ ap (λ (z : Verdict). y .failing + failed z) (judged-same f d (sym o ∙ m));
               goes-on = λ s d m z b.
-              let grown : Accepted (log ++ line) u = taken-grows log t (l .accepted) line u q in
-              c ∙ (ap (λ (k : Tally). tallyOf u (k .failing + failed f)) s ∙ (tally-goes-on file x log t (l .accepted) line u q ∙ ap (tallyAfter file x (log ++ line)) (same-trace u z (sym (grown .leaves) ∙ b .leaves))));
+                  let grown : Accepted (log ++ line) u = taken-grows log t (l .accepted) line u q in
+                  c ∙ (ap (λ (k : Tally). tallyOf u (k .failing + failed f)) s ∙ (tally-goes-on file x log t (l .accepted) line u q ∙ ap (tallyAfter file x (log ++ line)) (same-trace u z (sym (grown .leaves) ∙ b .leaves))));
               kept = λ d m. judged-taken f d (sym o ∙ m);
             }
         go (refused d) q e =

@@ -1,7 +1,7 @@
 -- One turn of the whole-log call is right: it is the inner step on the line at the place, its verdict byte is stored at the count
 -- of the lines before it, and a refusal names the line after them.
-use Prim.Native.Nat.{ℕ, _+_, _<_, _≤_}
-use mathlib.Core.Path.{_≡_, refl, ap, sym, _∙_, subst}
+use Prim.Native.Nat.{ℕ, _<_, _≤_}
+use mathlib.Core.Path.{_≡_, ap, sym, _∙_}
 use mathlib.Core.List.{List}
 use native.Mathlib.Omega.{arith}
 use lib.ListN.{length, set}
@@ -11,12 +11,11 @@ use Rattle.lines.specs.declared.Next.{Next}
 use Rattle.lines.specs.declared.Next.the-variants as Next
 use Rattle.lines.proofs.Log.{line-is-handed-out}
 use Rattle.trace.specs.declared.Record.{Record}
-use Rattle.trace.specs.Trace.{Trace, Answer, next, refused, apply}
+use Rattle.trace.specs.Trace.{Trace}
 use Rattle.trace.specs.Record.{recordOf, Bounded}
 use Rattle.trace.proofs.Bounds.{accepted-bounded}
 use Rattle.trace.proofs.Grown.{taken-grows}
 use Rattle.trace.proofs.Taken.{step-lines}
-use Rattle.pairs.specs.Pairs.{workOf}
 use Rattle.rules.specs.declared.Rule.{Rule}
 use Rattle.rules.specs.Rules.{formulaOf}
 use Rattle.logic.specs.declared.Verdict.{Verdict}
@@ -31,7 +30,7 @@ use Rattle.monitor.specs.Handed.{Left, Standing}
 use Rattle.monitor.specs.Line.{judged}
 use Rattle.monitor.specs.Step.{Advances}
 use Rattle.monitor.specs.Reading.{turned, stopped, turnAfter, lineBetween, turnOf, TakesLine, Turns}
-use Rattle.monitor.proofs.LineMeans.{judged-same, judged-taken, TakenOut, RefusedOut, by-line}
+use Rattle.monitor.proofs.LineMeans.{judged-same, judged-taken, by-line}
 
 -- ── the lines of a record ──
 lines-of : (r : Record) (t : Trace) → r ≡ recordOf t → r .lines .0 ≡ t .lines

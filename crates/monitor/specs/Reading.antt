@@ -14,7 +14,6 @@ use Rattle.pairs.specs.Pairs.{workOf}
 use Rattle.rules.specs.declared.Rule.{Rule}
 use Rattle.rules.specs.Rules.{formulaOf}
 use Rattle.logic.specs.Verdict.{verdictByte, verdictOf}
-use Rattle.monitor.specs.declared.Ending.{Ending}
 use Rattle.monitor.specs.declared.Ending.the-variants.{Read, Refused}
 use Rattle.monitor.specs.declared.Turn.{Turn}
 use Rattle.monitor.specs.declared.Turn.the-variants.{More, Ended}

@@ -1,14 +1,12 @@
 -- The pair bytes of an accepted log: each names the order in which the lines of its two runs stand in the log.
-use Prim.Native.Nat.{ℕ, _<_, _≤_}
+use Prim.Native.Nat.{ℕ, _<_}
 use mathlib.Core.Path.{_≡_, ap, sym}
-use mathlib.Core.List.{List, [], _∷_}
-use mathlib.Core.Bool.{Bool, true, false, _&&_, cond}
+use mathlib.Core.List.{List}
 use native.Mathlib.Omega.{arith}
-use lib.Dec.{ltb}
-use lib.ListN.{length, getD}
+use lib.ListN.{length}
 use borrow.Author.Tests.{lt-ltb}
 use Rattle.lists.specs.Lists.{bytes}
-use Rattle.trace.specs.Trace.{Trace, Answer, next, refused, runAt, start, finish, noRun, read, Accepted}
+use Rattle.trace.specs.Trace.{Trace, Answer, next, refused, runAt, read, Accepted}
 use Rattle.trace.proofs.Accepted.{Orderly, accepted-orderly}
 use Rattle.trace.proofs.Examples.{p1 as Trace-p1}
 use Rattle.pairs.specs.Pairs.{pairSet, pairByte}

@@ -8,7 +8,7 @@ use lib.ListN.{length, getD, set, drop, length-append, List·getD-append, List·
 use lib.Dec.{eqb, ltb}
 use lib.Seq.{drop-set-lt}
 use borrow.Author.Tests.{lt-ltb, le-ltb}
-use Rattle.lists.proofs.Cases.{either-lt, either-bool, no-both}
+use Rattle.lists.proofs.Cases.{either-lt, either-bool}
 use Rattle.labels.specs.declared.Label.{Label}
 use Rattle.trace.specs.declared.Run.{Run}
 use Rattle.trace.specs.Trace.{Trace, next, noRun, begun?, placeOf, close, begin, end, apply, runOf}
@@ -18,8 +18,8 @@ use Rattle.trace.specs.Steps.{held}
 use Rattle.pairs.specs.Pairs.{pairSet, pairByte, workOf}
 use Rattle.pairs.specs.Refresh.{Beside, Refreshes}
 use Rattle.labels.specs.Label.{labelOf}
-use Rattle.lines.specs.Event.{Event, begins, ends}
-use Rattle.trace.proofs.Taken.{Begun, Ended, event-taken}
+use Rattle.lines.specs.Event.{Event}
+use Rattle.trace.proofs.Taken.{event-taken}
 use Rattle.trace.proofs.Closed.{RunOf, begun-run, close-long}
 use Rattle.pairs.proofs.Cross.{cross-right}
 

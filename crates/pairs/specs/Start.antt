@@ -8,7 +8,6 @@ use lib.ListN.{length}
 use Rattle.trace.specs.Trace.{noTrace}
 use Rattle.trace.specs.Record.{recordOf}
 use Rattle.pairs.specs.declared.Started.{Started}
-use Rattle.pairs.specs.declared.Start.{Start}
 use Rattle.pairs.specs.declared.Start.the-variants.{Ready, Refused}
 use Rattle.pairs.specs.Pairs.{workOf}
 

@@ -4,8 +4,6 @@ use mathlib.Core.Path.{refl}
 use Rattle.labels.proofs.Table.{adds}
 use Rattle.labels.proofs.add_label.Statement.{statement}
 use Rattle.labels.proofs.add_label.Tie as tie
-use Rattle.labels.proofs.add_label.Reads as reads
-use Rattle.labels.proofs.add_label.Lts as lts
 
 mul-x : tie.Need-mul-x
 mul-x c = search needs

@@ -3,9 +3,6 @@ use borrow.Author.Needs.{needs}
 use Rattle.labels.proofs.Same.{byte-in, byte-past}
 use Rattle.labels.proofs.byte_sound.Statement.{statement}
 use Rattle.labels.proofs.byte_sound.Tie as tie
-use Rattle.labels.proofs.byte_sound.Reads as reads
-use Rattle.labels.proofs.byte_sound.Lts as lts
-use Rattle.labels.proofs.label_byte.Reads as label-byte-reads
 
 label-byte-requires : tie.Need-label-byte-requires
 label-byte-requires c κs = search needs

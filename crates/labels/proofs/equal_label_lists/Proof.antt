@@ -1,6 +1,6 @@
 -- The lists agree up to the label at hand; one that differs decides.
-use Prim.Native.Nat.{ℕ, _+_, _-_, _<_, _≤_}
-use mathlib.Core.Path.{_≡_, ap}
+use Prim.Native.Nat.{ℕ, _-_, _<_, _≤_}
+use mathlib.Core.Path.{_≡_}
 use native.Mathlib.Omega.{arith}
 use borrow.Author.Needs.{needs}
 use borrow.Author.Tests.{not-true, not-false}
@@ -9,9 +9,6 @@ use Rattle.lists.proofs.Lists.{unmapped, alike, differ, one-like}
 use Rattle.labels.specs.Label.{absent}
 use Rattle.labels.proofs.equal_label_lists.Statement.{statement}
 use Rattle.labels.proofs.equal_label_lists.Tie as tie
-use Rattle.labels.proofs.equal_label_lists.Reads as reads
-use Rattle.labels.proofs.equal_label_lists.Lts as lts
-use Rattle.labels.proofs.equal_labels.Reads as equal-labels-reads
 
 abbrev Inv-loop : tie.InvT-loop
 Inv-loop a b i₀ i = (i ≤ 64) × ((j : ℕ) → j < i → getD a j absent ≡ getD b j absent)

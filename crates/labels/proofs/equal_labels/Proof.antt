@@ -1,16 +1,13 @@
 -- The labels are the same up to the byte at hand; a byte that differs decides.
-use Prim.Native.Nat.{ℕ, suc, _+_, _-_, _<_, _≤_, _%_}
-use mathlib.Core.Path.{_≡_, refl, ap, sym, _∙_}
-use mathlib.Core.Bool.{true, false}
+use Prim.Native.Nat.{ℕ, _-_, _<_, _≤_}
+use mathlib.Core.Path.{_≡_}
 use native.Mathlib.Omega.{arith}
 use borrow.Author.Needs.{needs}
-use lib.ListN.{length, drop, take, getD}
+use lib.ListN.{getD}
 use Rattle.lists.proofs.Lists.{alike, differ, one-like}
 use Rattle.labels.proofs.Same.{length-differs, bytes-decide}
 use Rattle.labels.proofs.equal_labels.Statement.{statement}
 use Rattle.labels.proofs.equal_labels.Tie as tie
-use Rattle.labels.proofs.equal_labels.Reads as reads
-use Rattle.labels.proofs.equal_labels.Lts as lts
 
 abbrev Inv-loop : tie.InvT-loop
 Inv-loop a b i₀ i = (i ≤ 24) × ((j : ℕ) → j < i → getD (a .bytes) j 0 ≡ getD (b .bytes) j 0)

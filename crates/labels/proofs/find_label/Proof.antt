@@ -1,19 +1,13 @@
 -- The search of the table is the search from the place at hand, through the places that are left.
 use borrow.Author.Needs.{needs}
-use mathlib.Core.Path.{_≡_, refl, ap, sym, _∙_}
+use mathlib.Core.Path.{_≡_, ap, sym}
 use native.Mathlib.Omega.{arith}
-use Prim.Native.Nat.{ℕ, suc, _+_, _-_, _<_, _≤_, _%_}
-use lib.ListN.{length, drop, take, getD}
-use Rattle.labels.specs.declared.Slot.{Slot}
+use Prim.Native.Nat.{ℕ, _<_, _≤_}
 use Rattle.labels.specs.Table.{probe, lookup, placeAt, labelAt, firstPlace, Readable}
 use Rattle.labels.proofs.Probe.{first-low, turn-free, turn-seen, turn-next, turn-full}
 use Rattle.labels.proofs.Table.{finds}
 use Rattle.labels.proofs.find_label.Statement.{statement}
 use Rattle.labels.proofs.find_label.Tie as tie
-use Rattle.labels.proofs.find_label.Reads as reads
-use Rattle.labels.proofs.find_label.Lts as lts
-use Rattle.labels.proofs.first_place.Reads as first-place-reads
-use Rattle.labels.proofs.equal_labels.Reads as equal-labels-reads
 
 abbrev Inv-loop : tie.InvT-loop
 Inv-loop x t p₀ left₀ p left = (p < 128) × (left ≤ 128) × (lookup t x ≡ probe (placeAt (t .places)) (labelAt (t .labels)) x p left)

@@ -1,16 +1,13 @@
 -- The label's bytes are those before its length.
 use borrow.Author.Needs.{needs}
-use mathlib.Core.Path.{_≡_, refl, ap, sym, _∙_}
+use mathlib.Core.Path.{_≡_, ap, sym}
 use native.Mathlib.Omega.{arith}
-use Prim.Native.Nat.{ℕ, suc, _+_, _-_, _<_, _≤_, _%_}
-use lib.ListN.{length, drop, take, getD}
+use Prim.Native.Nat.{ℕ, _%_}
+use lib.ListN.{length}
 use lib.Seq.{length-take-le}
 use Rattle.labels.specs.Table.{firstPlace}
 use Rattle.labels.proofs.first_place.Statement.{statement}
 use Rattle.labels.proofs.first_place.Tie as tie
-use Rattle.labels.proofs.first_place.Reads as reads
-use Rattle.labels.proofs.first_place.Lts as lts
-use Rattle.labels.proofs.fnv1a.Reads as fnv1a-reads
 
 cast-n : tie.Need-cast-n
 cast-n c = search needs

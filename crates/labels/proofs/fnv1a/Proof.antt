@@ -1,6 +1,6 @@
 -- The hash of the bytes is the hash of those left, started at the hash so far.
-use Prim.Native.Nat.{ℕ, suc, _+_, _-_, _<_, _≤_, _%_}
-use mathlib.Core.Path.{_≡_, refl, ap, sym, _∙_}
+use Prim.Native.Nat.{_-_, _≤_}
+use mathlib.Core.Path.{_≡_, refl}
 use native.Mathlib.Omega.{arith}
 use borrow.Author.Needs.{needs}
 use lib.ListN.{length, drop}
@@ -8,9 +8,6 @@ use Rattle.labels.specs.Fnv.{fnvOf, fnvFrom}
 use Rattle.labels.proofs.Hash.{hash-next, hash-end}
 use Rattle.labels.proofs.fnv1a.Statement.{statement}
 use Rattle.labels.proofs.fnv1a.Tie as tie
-use Rattle.labels.proofs.fnv1a.Reads as reads
-use Rattle.labels.proofs.fnv1a.Lts as lts
-use Rattle.labels.proofs.fnv_step.Reads as fnv-step-reads
 
 abbrev Inv-loop : tie.InvT-loop
 Inv-loop bytes h₀ i₀ h i = (i ≤ length bytes) × (fnvOf bytes ≡ fnvFrom h (drop i bytes))

@@ -1,17 +1,13 @@
 -- The array so far is the first bytes, filled up with zeros.
-use Prim.Native.Nat.{ℕ, suc, _+_, _-_, _<_, _≤_, _%_}
-use mathlib.Core.Path.{_≡_, refl, ap, sym, _∙_}
+use Prim.Native.Nat.{_-_, _≤_}
+use mathlib.Core.Path.{_≡_, refl}
 use native.Mathlib.Omega.{arith}
 use borrow.Author.Needs.{needs}
-use lib.ListN.{length, drop, take, getD}
-use mathlib.Core.Bool.{true, false}
-use lib.Seq.{take-nil}
+use lib.ListN.{length, take}
 use Rattle.lists.specs.Lists.{pad}
 use Rattle.labels.proofs.Same.{copy-next, copy-end}
 use Rattle.labels.proofs.label_from.Statement.{statement}
 use Rattle.labels.proofs.label_from.Tie as tie
-use Rattle.labels.proofs.label_from.Reads as reads
-use Rattle.labels.proofs.label_from.Lts as lts
 
 abbrev Inv-loop : tie.InvT-loop
 Inv-loop bytes text₀ n i₀ text i = (i ≤ length bytes) × (text ≡ pad 0 24 (take i bytes))

@@ -1,18 +1,13 @@
 -- All labels are blank and all places empty.
 use borrow.Author.Needs.{needs}
-use mathlib.Core.Path.{_≡_, refl, ap, sym, _∙_}
-use mathlib.Core.List.{[]}
+use mathlib.Core.Path.{ap}
 use lib.ListN.{replicate}
 use Rattle.lists.specs.Lists.{pad}
 use Rattle.labels.specs.declared.Label.{Label}
-use Rattle.labels.specs.declared.LabelTable.{LabelTable}
-use Rattle.labels.specs.Label.{labelNo, noLabel}
-use Rattle.labels.specs.Table.{tableOf, placesOf, insertAll}
+use Rattle.labels.specs.Label.{labelNo}
+use Rattle.labels.specs.Table.{placesOf, insertAll}
 use Rattle.labels.proofs.no_labels.Statement.{statement}
 use Rattle.labels.proofs.no_labels.Tie as tie
-use Rattle.labels.proofs.no_labels.Reads as reads
-use Rattle.labels.proofs.no_labels.Lts as lts
-use Rattle.labels.proofs.no_label.Reads as no-label-reads
 
 no-label-requires : tie.Need-no-label-requires
 no-label-requires c κs = search needs

@@ -1,5 +1,5 @@
 -- The lists agree up to the place at hand; one that differs decides.
-use Prim.Native.Nat.{ℕ, _+_, _-_, _<_, _≤_}
+use Prim.Native.Nat.{ℕ, _-_, _<_, _≤_}
 use mathlib.Core.Path.{_≡_, ap}
 use native.Mathlib.Omega.{arith}
 use borrow.Author.Needs.{needs}
@@ -9,8 +9,6 @@ use Rattle.labels.specs.declared.LabelNo.{LabelNo}
 use Rattle.labels.specs.Label.{labelNo}
 use Rattle.labels.proofs.same_places.Statement.{statement}
 use Rattle.labels.proofs.same_places.Tie as tie
-use Rattle.labels.proofs.same_places.Reads as reads
-use Rattle.labels.proofs.same_places.Lts as lts
 
 abbrev Inv-loop : tie.InvT-loop
 Inv-loop a b i₀ i = (i ≤ 128) × ((j : ℕ) → j < i → getD a j (labelNo 0) ≡ getD b j (labelNo 0))

@@ -4,10 +4,6 @@ use borrow.Author.Tests.{not-true, not-false}
 use Rattle.labels.proofs.Table.{count-differs, labels-differ, places-decide}
 use Rattle.labels.proofs.same_table.Statement.{statement}
 use Rattle.labels.proofs.same_table.Tie as tie
-use Rattle.labels.proofs.same_table.Reads as reads
-use Rattle.labels.proofs.same_table.Lts as lts
-use Rattle.labels.proofs.equal_label_lists.Reads as equal-label-lists-reads
-use Rattle.labels.proofs.same_places.Reads as same-places-reads
 
 returns : tie.Need-returns
 returns c = count-differs _ _ (c .if1 .taken)

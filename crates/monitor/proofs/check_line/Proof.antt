@@ -2,11 +2,6 @@ use Rattle.monitor.proofs.LineCall.{rule-taken, standing-known, line-sh
 use borrow.Author.Needs.{needs}
 use Rattle.monitor.proofs.check_line.Statement.{statement}
 use Rattle.monitor.proofs.check_line.Tie as tie
-use Rattle.monitor.proofs.check_line.Reads as reads
-use Rattle.monitor.proofs.check_line.Lts as lts
-use Rattle.monitor.proofs.step.advance.Reads as advance-reads
-use Rattle.monitor.proofs.step.known.Reads as known-reads
-use Rattle.rules.proofs.read_rule.Reads as read-rule-reads
 
 -- src/lib.rt:80:9
 returns : tie.Need-returns

@@ -3,12 +3,6 @@ use Rattle.monitor.proofs.TallyCall.{tallied-short, tallied-unruled, ta
 use borrow.Author.Needs.{needs}
 use Rattle.monitor.proofs.check_line_tallied.Statement.{statement}
 use Rattle.monitor.proofs.check_line_tallied.Tie as tie
-use Rattle.monitor.proofs.check_line_tallied.Reads as reads
-use Rattle.monitor.proofs.check_line_tallied.Lts as lts
-use Rattle.monitor.proofs.counts.advance_tallied.Reads as advance-tallied-reads
-use Rattle.monitor.proofs.counts.refuse_tallied.Reads as refuse-tallied-reads
-use Rattle.monitor.proofs.step.known.Reads as known-reads
-use Rattle.rules.proofs.read_rule.Reads as read-rule-reads
 
 -- src/lib.rt:110:9
 refuse-tallied-requires : tie.Need-refuse-tallied-requires

@@ -3,11 +3,6 @@ use Rattle.monitor.proofs.LogCall.{log-short, log-small, log-unruled, l
 use borrow.Author.Needs.{needs}
 use Rattle.monitor.proofs.check_log.Statement.{statement}
 use Rattle.monitor.proofs.check_log.Tie as tie
-use Rattle.monitor.proofs.check_log.Reads as reads
-use Rattle.monitor.proofs.check_log.Lts as lts
-use Rattle.monitor.proofs.log.read_lines.Reads as read-lines-reads
-use Rattle.monitor.proofs.not_read.Reads as not-read-reads
-use Rattle.rules.proofs.read_rule.Reads as read-rule-reads
 
 -- src/lib.rt:155:9
 not-read-requires : tie.Need-not-read-requires

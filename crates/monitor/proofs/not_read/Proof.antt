@@ -2,9 +2,6 @@ use Rattle.monitor.proofs.LogCall.{not-read}
 use borrow.Author.Needs.{needs}
 use Rattle.monitor.proofs.not_read.Statement.{statement}
 use Rattle.monitor.proofs.not_read.Tie as tie
-use Rattle.monitor.proofs.not_read.Reads as reads
-use Rattle.monitor.proofs.not_read.Lts as lts
-use Rattle.trace.proofs.no_lines.Reads as no-lines-reads
 
 -- src/lib.rt:143:9
 no-lines-requires : tie.Need-no-lines-requires

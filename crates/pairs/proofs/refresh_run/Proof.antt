@@ -3,9 +3,6 @@ use borrow.Author.Needs.{needs}
 use Rattle.pairs.proofs.Refreshed.{refreshes}
 use Rattle.pairs.proofs.refresh_run.Statement.{statement}
 use Rattle.pairs.proofs.refresh_run.Tie as tie
-use Rattle.pairs.proofs.refresh_run.Reads as reads
-use Rattle.pairs.proofs.refresh_run.Lts as lts
-use Rattle.pairs.proofs.store_cross.Reads as store-cross-reads
 
 cast-at : tie.Need-cast-at
 cast-at c = search needs

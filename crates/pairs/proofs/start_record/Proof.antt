@@ -3,10 +3,6 @@ use borrow.Author.Needs.{needs}
 use Rattle.pairs.proofs.Starts.{starts}
 use Rattle.pairs.proofs.start_record.Statement.{statement}
 use Rattle.pairs.proofs.start_record.Tie as tie
-use Rattle.pairs.proofs.start_record.Reads as reads
-use Rattle.pairs.proofs.start_record.Lts as lts
-use Rattle.pairs.proofs.clear_pairs.Reads as clear-pairs-reads
-use Rattle.trace.proofs.no_lines.Reads as no-lines-reads
 
 no-lines-requires : tie.Need-no-lines-requires
 no-lines-requires c κs = search needs

@@ -3,12 +3,6 @@ use Rattle.monitor.proofs.TallyCall.{standing-runs, failing-few, advanc
 use borrow.Author.Needs.{needs}
 use Rattle.monitor.proofs.counts.advance_tallied.Statement.{statement}
 use Rattle.monitor.proofs.counts.advance_tallied.Tie as tie
-use Rattle.monitor.proofs.counts.advance_tallied.Reads as reads
-use Rattle.monitor.proofs.counts.advance_tallied.Lts as lts
-use Rattle.monitor.proofs.counts.count_line.Reads as count-line-reads
-use Rattle.monitor.proofs.counts.counts_match.Reads as counts-match-reads
-use Rattle.monitor.proofs.counts.refuse_tallied.Reads as refuse-tallied-reads
-use Rattle.monitor.proofs.step.advance.Reads as advance-reads
 
 -- src/counts.rt:124:9
 counts-match-requires : tie.Need-counts-match-requires

@@ -2,9 +2,6 @@ use Rattle.monitor.proofs.Tallies.{count-refused, count-holds, count-fa
 use borrow.Author.Needs.{needs}
 use Rattle.monitor.proofs.counts.count_line.Statement.{statement}
 use Rattle.monitor.proofs.counts.count_line.Tie as tie
-use Rattle.monitor.proofs.counts.count_line.Reads as reads
-use Rattle.monitor.proofs.counts.count_line.Lts as lts
-use Rattle.monitor.proofs.counts.tally_of.Reads as tally-of-reads
 
 -- src/counts.rt:77:26
 enum-known-o : tie.Need-enum-known-o

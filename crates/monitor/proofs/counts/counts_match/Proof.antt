@@ -2,9 +2,6 @@ use Rattle.monitor.proofs.Tallies.{matching}
 use borrow.Author.Needs.{needs}
 use Rattle.monitor.proofs.counts.counts_match.Statement.{statement}
 use Rattle.monitor.proofs.counts.counts_match.Tie as tie
-use Rattle.monitor.proofs.counts.counts_match.Reads as reads
-use Rattle.monitor.proofs.counts.counts_match.Lts as lts
-use Rattle.monitor.proofs.counts.tally_of.Reads as tally-of-reads
 
 -- src/counts.rt:53:9
 tally-of-requires : tie.Need-tally-of-requires

@@ -1,6 +1,6 @@
 -- The loop's invariant: the finished runs passed and those that are left are all finished runs.
 use Prim.Native.Nat.{_+_, _-_, _≤_}
-use mathlib.Core.Path.{_≡_, refl}
+use mathlib.Core.Path.{_≡_}
 use mathlib.Core.Logic.{⊎-elim}
 use native.Mathlib.Omega.{arith}
 use borrow.Author.Needs.{needs}
@@ -11,8 +11,6 @@ use Rattle.monitor.specs.Tally.{finishedRuns}
 use Rattle.monitor.proofs.Tallies.{count-open, count-finished, count-all}
 use Rattle.monitor.proofs.counts.finished_count.Statement.{statement}
 use Rattle.monitor.proofs.counts.finished_count.Tie as tie
-use Rattle.monitor.proofs.counts.finished_count.Reads as reads
-use Rattle.monitor.proofs.counts.finished_count.Lts as lts
 
 abbrev Inv-loop : tie.InvT-loop
 Inv-loop t n finished₀ i₀ finished i = (i ≤ n) × (finished ≤ i) × (finished + finishedRuns (drop i (held t)) ≡ finishedRuns (held t))

@@ -5,9 +5,6 @@ use Rattle.monitor.proofs.Tallies.{finished-table, counts-record}
 use borrow.Author.Needs.{needs}
 use Rattle.monitor.proofs.counts.tally_of.Statement.{statement}
 use Rattle.monitor.proofs.counts.tally_of.Tie as tie
-use Rattle.monitor.proofs.counts.tally_of.Reads as reads
-use Rattle.monitor.proofs.counts.tally_of.Lts as lts
-use Rattle.monitor.proofs.counts.finished_count.Reads as finished-count-reads
 
 -- src/counts.rt:37:9
 finished-count-requires : tie.Need-finished-count-requires

@@ -1,17 +1,11 @@
 -- The loop's invariant is `Reading`: what was read is an accepted log, and the lines that are left give what all lines give.
 use Prim.Native.Nat.{_-_, _≤_}
 use mathlib.Core.Path.{_≡_, refl}
-use native.Mathlib.Omega.{arith}
 use borrow.Author.Needs.{needs}
 use lib.ListN.{length}
 use Rattle.monitor.proofs.Reading.{Reading, reading-none, reading-standing, reading-on, reading-ended, turn-less, turn-within}
 use Rattle.monitor.proofs.log.read_lines.Statement.{statement}
 use Rattle.monitor.proofs.log.read_lines.Tie as tie
-use Rattle.monitor.proofs.log.read_lines.Reads as reads
-use Rattle.monitor.proofs.log.read_lines.Lts as lts
-use Rattle.monitor.proofs.log.line_at.Reads as line-at-reads
-use Rattle.pairs.proofs.clear_pairs.Reads as clear-pairs-reads
-use Rattle.trace.proofs.no_lines.Reads as no-lines-reads
 
 abbrev Inv-loop : tie.InvT-loop
 Inv-loop file rule log work₀ verdicts₀ r₀ place₀ work verdicts r place =

@@ -2,11 +2,6 @@ use Rattle.monitor.proofs.StepLine.{settles-refused, settles-taken, tak
 use borrow.Author.Needs.{needs}
 use Rattle.monitor.proofs.step.settle.Statement.{statement}
 use Rattle.monitor.proofs.step.settle.Tie as tie
-use Rattle.monitor.proofs.step.settle.Reads as reads
-use Rattle.monitor.proofs.step.settle.Lts as lts
-use Rattle.logic.proofs.judge.Reads as judge-reads
-use Rattle.monitor.proofs.step.outcome_of.Reads as outcome-of-reads
-use Rattle.pairs.proofs.refresh_run.Reads as refresh-run-reads
 
 -- src/step.rt:60:33
 enum-known-o : tie.Need-enum-known-o

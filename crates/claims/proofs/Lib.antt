@@ -1,7 +1,9 @@
 pub mod Numbers
+pub mod AfterMet
 pub mod Stops
 pub mod WhereMet
 pub mod OtherCalls
 pub mod Refusals
 pub mod Verdicts
+pub mod Worked
 pub mod Claims

@@ -17,10 +17,10 @@ use Rattle.trace.specs.Trace.{Trace, next, refused, begun?, endOf, begin, end, 
 abbrev InLines : ℕ → Type 0
 InLines c = (11 ≤ c) × (c ≤ 19)
 
-same-number : (c d : ℕ) → refused d ≡ refused c → d ≡ c
+pub same-number : (c d : ℕ) → refused d ≡ refused c → d ≡ c
 same-number c d e = cc
 
-no-refusal : {C : Type 0} (c : ℕ) (u : Trace) → next u ≡ refused c → C
+pub no-refusal : {C : Type 0} (c : ℕ) (u : Trace) → next u ≡ refused c → C
 no-refusal c u e = absurd (let z : _≡_ {A = ℕ} 0 1 = cc in omega arith)
 
 begin-number : (t : Trace) (i : ℕ) (x : Label) (c : ℕ) → beginRun t i x ≡ refused c → InLines c

@@ -1,26 +1,35 @@
 -- Demand 1 of the calls that take no line: starting a record, relating two runs, and sets of relations.
 use Prim.Native.Nat.{ℕ, _<_}
-use mathlib.Core.Path.{_≡_, ap, sym, _∙_}
+use mathlib.Core.Path.{_≡_, refl, ap, sym, _∙_, subst}
 use mathlib.Core.Logic.{_↔_}
 use mathlib.Core.List.{List}
 use mathlib.Core.Bool.{Bool, true, false, _&&_, cond}
 use native.Mathlib.Omega.{arith}
-use lib.ListN.{length}
+use lib.ListN.{length, take, drop}
 use lib.Dec.{eqb}
 use borrow.Author.Tests.{lt-ltb, le-ltb, le-leb, lt-leb}
+use Rattle.lists.specs.Lists.{has?}
 use Rattle.lists.proofs.Cases.{either-lt, either-bool}
+use Rattle.lines.specs.Event.{Event, begins, ends, faulty}
+use Rattle.lines.specs.Line.{eventOf, parsedAs, parsedOf}
+use Rattle.lines.specs.Log.{nextLine}
+use Rattle.lines.specs.declared.Next.the-variants as Next
+use Rattle.lines.specs.declared.Parsed.the-variants as Parsed
+use Rattle.lines.proofs.Log.{refused-line-is-faulty, refused-without-lf, without-lf-refused}
 use Rattle.trace.specs.declared.Record.{Record}
 use Rattle.trace.specs.declared.RunNo.{RunNo}
 use Rattle.trace.specs.Trace.{Trace}
 use Rattle.trace.specs.Record.{Valid}
 use Rattle.pairs.specs.Start.{startOf}
+use Rattle.pairs.specs.declared.Started.{Started}
 use Rattle.pairs.specs.declared.Start.the-variants as Start
 use Rattle.relations.specs.declared.Related.{Related}
 use Rattle.relations.specs.declared.Related.the-variants as Related
+use Rattle.relations.specs.declared.Composed.{Composed}
 use Rattle.relations.specs.declared.Composed.the-variants as Composed
 use Rattle.relations.specs.Sets.{converseOf, conversedOf}
-use Rattle.relations.specs.Runs.{finished?, relationIn, relateIn, Answers, Relating}
-use Rattle.relations.specs.Compose.{composeOf, composedOf}
+use Rattle.relations.specs.Runs.{finished?, relationIn, relateIn, Answers, Relating, Conversed}
+use Rattle.relations.specs.Compose.{composeOf, composedOf, Composition}
 use Rattle.claims.specs.WhereMet.{MetRelate, relate-unknown, relate-unfinished, relate-same, MetCompose, first-above, second-above}
 
 -- ── starting a record ──
@@ -30,16 +39,23 @@ same-start c d e = cc
 not-ready : {C : Type 0} (c : ℕ) → Start.Ready ≡ Start.Refused c → C
 not-ready c e = absurd (let z : _≡_ {A = ℕ} 0 1 = cc in omega arith)
 
-pub start-met : (w : List ℕ) (c : ℕ) → (startOf w .0 .outcome ≡ Start.Refused c) ↔ ((length w < 16384) × (c ≡ 20))
+start-of-met : (w : List ℕ) (c : ℕ) → (startOf w .0 .outcome ≡ Start.Refused c) ↔ ((length w < 16384) × (c ≡ 20))
 unfolding startOf
-start-met w c = (forth, λ p. simp (lt-ltb (length w) 16384 (p .0)) (ap Start.Refused (sym (p .1))))
+start-of-met w c = (forth, λ p. simp (lt-ltb (length w) 16384 (p .0)) (ap Start.Refused (sym (p .1))))
   where
     forth : startOf w .0 .outcome ≡ Start.Refused c → (length w < 16384) × (c ≡ 20)
     forth = either-lt (length w) 16384 (λ s. simp (lt-ltb _ _ s) (λ e. (s, sym (same-start c 20 e)))) (λ s. simp (le-ltb _ _ s) (λ e. not-ready c e))
 
-pub start-kept : (w : List ℕ) (c : ℕ) → startOf w .0 .outcome ≡ Start.Refused c → startOf w .1 ≡ w
+start-of-kept : (w : List ℕ) (c : ℕ) → startOf w .0 .outcome ≡ Start.Refused c → startOf w .1 ≡ w
 unfolding startOf
-start-kept w c e = simp (lt-ltb (length w) 16384 (start-met w c .0 e .0))
+start-of-kept w c e = simp (lt-ltb (length w) 16384 (start-of-met w c .0 e .0))
+
+module _ (w : List ℕ) (a : Started) (w′ : List ℕ) (h : _≡_ {A = Started × List ℕ} (a, w′) (startOf w)) (c : ℕ) where
+  pub start-met : (a .outcome ≡ Start.Refused c) ↔ ((length w < 16384) × (c ≡ 20))
+  start-met = subst (λ (z : Started × List ℕ). (z .0 .outcome ≡ Start.Refused c) ↔ ((length w < 16384) × (c ≡ 20))) (sym h) (start-of-met w c)
+
+  pub start-kept : a .outcome ≡ Start.Refused c → w′ ≡ w
+  start-kept = subst (λ (z : Started × List ℕ). z .0 .outcome ≡ Start.Refused c → z .1 ≡ w) (sym h) (start-of-kept w c)
 
 -- ── relating two runs ──
 same-related : (c d : ℕ) → Related.Refused d ≡ Related.Refused c → d ≡ c
@@ -82,8 +98,8 @@ same-composed c d e = cc
 not-composed : {C : Type 0} (s c : ℕ) → Composed.Set s ≡ Composed.Refused c → C
 not-composed s c e = absurd (let z : _≡_ {A = ℕ} 0 1 = cc in omega arith)
 
-pub compose-met : (a b c : ℕ) → (composedOf a b ≡ Composed.Refused c) ↔ MetCompose a b c
-compose-met a b c = (forth, back)
+composed-met : (a b c : ℕ) → (composedOf a b ≡ Composed.Refused c) ↔ MetCompose a b c
+composed-met a b c = (forth, back)
   where
     forth : composedOf a b ≡ Composed.Refused c → MetCompose a b c
     forth =
@@ -101,11 +117,41 @@ compose-met a b c = (forth, back)
         (λ s. simp (lt-leb a 63 s) (ap Composed.Refused (sym e)))
         (λ s. simp (le-leb a 63 s, lt-leb b 63 q) (ap Composed.Refused (sym e)))
 
-pub converse-met : (a c : ℕ) → (conversedOf a ≡ Composed.Refused c) ↔ ((63 < a) × (c ≡ 14))
-converse-met a c = (forth, λ p. simp (lt-leb a 63 (p .0)) (ap Composed.Refused (sym (p .1))))
+conversed-met : (a c : ℕ) → (conversedOf a ≡ Composed.Refused c) ↔ ((63 < a) × (c ≡ 14))
+conversed-met a c = (forth, λ p. simp (lt-leb a 63 (p .0)) (ap Composed.Refused (sym (p .1))))
   where
     forth : conversedOf a ≡ Composed.Refused c → (63 < a) × (c ≡ 14)
     forth =
         either-lt 63 a
         (λ s. simp (lt-leb a 63 s) (λ e. (s, sym (same-composed c 14 e))))
         (λ s. simp (le-leb a 63 s) (λ e. not-composed (converseOf a) c e))
+
+pub compose-met : (a b : ℕ) (v : Composed) → Composition a b v → (c : ℕ) → (v ≡ Composed.Refused c) ↔ MetCompose a b c
+compose-met a b v h c = subst (λ (z : Composed). (z ≡ Composed.Refused c) ↔ MetCompose a b c) (sym (h .answer)) (composed-met a b c)
+
+pub converse-met : (a : ℕ) (v : Composed) → Conversed a v → (c : ℕ) → (v ≡ Composed.Refused c) ↔ ((63 < a) × (c ≡ 14))
+converse-met a v h c = subst (λ (z : Composed). (z ≡ Composed.Refused c) ↔ ((63 < a) × (c ≡ 14))) (sym (h .answer)) (conversed-met a c)
+
+-- ── reading ──
+same-next : (c d : ℕ) → Next.Refused d ≡ Next.Refused c → d ≡ c
+same-next c d e = cc
+
+pub next-met : (log : List ℕ) (p c : ℕ) → (nextLine log p ≡ Next.Refused c) ↔ ((p < length log) × (has? 10 (take 40 (drop p log)) ≡ false) × (c ≡ 11))
+next-met log p c = (forth, λ h. refused-without-lf log p (h .0) (h .1) ∙ ap Next.Refused (sym (h .2)))
+  where
+    forth : nextLine log p ≡ Next.Refused c → (p < length log) × (has? 10 (take 40 (drop p log)) ≡ false) × (c ≡ 11)
+    forth e =
+        let n : c ≡ 11 = refused-line-is-faulty log p c e .number in
+        let h = without-lf-refused log p (e ∙ ap Next.Refused n) in
+        (h .0, h .1, n)
+
+same-parsed : (c d : ℕ) → Parsed.Refused d ≡ Parsed.Refused c → d ≡ c
+same-parsed c d e = cc
+
+pub parse-met : (line : List ℕ) (c : ℕ) → (parsedOf line ≡ Parsed.Refused c) ↔ (eventOf line ≡ faulty c)
+parse-met line c = (λ e. forth (eventOf line) refl e, λ e. ap (parsedAs (length line)) e)
+  where
+    forth : (v : Event) → eventOf line ≡ v → parsedAs (length line) v ≡ Parsed.Refused c → eventOf line ≡ faulty c
+    forth (begins i l) q e = absurd (let z : _≡_ {A = ℕ} 0 1 = cc in omega arith)
+    forth (ends i) q e = absurd (let z : _≡_ {A = ℕ} 0 1 = cc in omega arith)
+    forth (faulty d) q e = q ∙ ap faulty (same-parsed c d e)

@@ -1,6 +1,6 @@
 -- Demand 1: each refusal is on the list and keeps what earlier lines had settled.
 use Prim.Native.Nat.{ℕ, _≤_}
-use mathlib.Core.Path.{_≡_, refl, ap, sym, _∙_}
+use mathlib.Core.Path.{_≡_, refl, ap, sym, _∙_, subst}
 use mathlib.Core.List.{List}
 use mathlib.Core.Option.{Option, none, some}
 use mathlib.Core.Bool.{false, _||_}
@@ -25,20 +25,24 @@ use Rattle.monitor.specs.declared.Outcome.the-variants.{Refused}
 use Rattle.monitor.specs.declared.Checked.{Checked}
 use Rattle.monitor.specs.declared.Tally.{Tally}
 use Rattle.monitor.specs.declared.Tallied.{Tallied}
+use Rattle.monitor.specs.declared.LogChecked.{LogChecked}
 use Rattle.monitor.specs.declared.Ending.the-variants as Ending
 use Rattle.monitor.specs.Handed.{HandedBy, Reached}
-use Rattle.monitor.specs.Line.{refusing, lineAfter, advanceOf, stateOf, withRule, lineOf}
-use Rattle.monitor.specs.Tally.{refusingWith, counts?, talliedAfter, talliedState, talliedOf}
-use Rattle.monitor.specs.Log.{ended, notRead, linesFrom, logOf}
+use Rattle.monitor.specs.Line.{refusing, lineAfter, advanceOf, stateOf, withRule, lineOf, ChecksLine}
+use Rattle.monitor.specs.Tally.{refusingWith, counts?, talliedAfter, talliedState, talliedOf, ChecksTallied}
+use Rattle.monitor.specs.Log.{ended, notRead, linesFrom, logOf, ChecksLog}
 use Rattle.claims.specs.Demands.{Listed, LogRefused, unread, stopped, Demand1}
 use Rattle.claims.proofs.Numbers.{line-number}
-use Rattle.claims.proofs.Stops.{same-refusal, not-judged, End, same-ending, Stopped, stops, start-of, start-accepted, start-lines, start-divides, start-number}
-use Rattle.claims.proofs.WhereMet.{line-met, tallied-met, log-met}
-use Rattle.claims.proofs.OtherCalls.{start-met, start-kept, relate-met, compose-met, converse-met}
+use Rattle.claims.proofs.Stops.{same-refusal, not-judged, End, same-ending, Stopped, stops, start-of, start-lines, first-refused}
+use Rattle.claims.proofs.WhereMet.{handed, line-met, tallied-met, log-met}
+use Rattle.claims.proofs.OtherCalls.{start-met, start-kept, relate-met, compose-met, converse-met, next-met, parse-met}
 
 -- ── numbers ──
+rule-range : (file : List ℕ) (n : ℕ) → ruleOf file ≡ RuleRead.Refused n → (1 ≤ n) × (n ≤ 10)
+rule-range file n e = reads-rule file (RuleRead.Refused n) (sym e) .refused n refl
+
 rule-number : (file : List ℕ) (n : ℕ) → ruleOf file ≡ RuleRead.Refused n → Listed n
-rule-number file n e = let r = reads-rule file (RuleRead.Refused n) (sym e) .refused n refl in omega arith
+rule-number file n e = let r = rule-range file n e in omega arith
 
 -- ── one line ──
 module _ (r : Record) (w : List ℕ) where
@@ -115,47 +119,82 @@ tallied-kept file r y w line k h =
     go (RuleRead.Rule x) q s = tally-state r y w file x line k (h (record { long = s; rule = x; taken = q }))
 
 -- ── a whole log ──
-log-kept : (file log w out : List ℕ) (c n : ℕ) → logOf file log w out .0 .ending ≡ Ending.Refused c n → Listed c × LogRefused file log w out c n
-unfolding logOf withRule
-log-kept file log w out c n e =
+abbrev LogKept : List ℕ → List ℕ → List ℕ → List ℕ → ℕ → ℕ → Type 0
+LogKept file log w out c n = Listed c × LogRefused file log w out c n (logOf file log w out .0) (logOf file log w out .1) (logOf file log w out .2)
+
+log-of-kept : (file log w out : List ℕ) (c n : ℕ) → logOf file log w out .0 .ending ≡ Ending.Refused c n → LogKept file log w out c n
+unfolding logOf withRule first-refused
+log-of-kept file log w out c n e =
     either-bool (ltb (length w) 16384 || ltb (length out) 256)
-    (λ s.
-    let q : logOf file log w out ≡ (notRead 20, w, out) = simp s in
-    let p = same-ending c 20 n 0 (sym (ap (λ (a : End). a .0 .ending) q) ∙ e) in
-    (omega arith, unread (sym (p .1)) (q ∙ (λ i. (notRead (p .0 i), w, out)))))
+    (λ s. not-touched 20 (omega arith) (simp s))
     (λ s. go (ruleOf file) refl s)
   where
+    not-touched : (m : ℕ) → Listed m → logOf file log w out ≡ (notRead m, w, out) → LogKept file log w out c n
+    not-touched m l q =
+        let p = same-ending c m n 0 (sym (ap (λ (z : End). z .0 .ending) q) ∙ e) in
+        (omega (arith, l, p .0), unread (sym (p .1)) (ap (λ (z : End). z .0) q ∙ ap notRead (p .0)) (ap (λ (z : End). z .1) q) (ap (λ (z : End). z .2) q))
+
     -- the rule is taken and the buffers are long enough: the lines are read
     read-first : (l : List ℕ) (x : Rule) → ruleOf file ≡ RuleRead.Rule x → ltb (length w) 16384 || ltb (length out) 256 ≡ false
         → logOf file l w out ≡ linesFrom file x noTrace (linesOf l) w out
     read-first l x r s = simp s (ap (λ (z : RuleRead). withRule {A = End} z (λ n. (notRead n, w, out)) (λ x. linesFrom file x noTrace (linesOf l) w out)) r)
 
-    go : (q : RuleRead) → ruleOf file ≡ q → ltb (length w) 16384 || ltb (length out) 256 ≡ false → Listed c × LogRefused file log w out c n
+    go : (q : RuleRead) → ruleOf file ≡ q → ltb (length w) 16384 || ltb (length out) 256 ≡ false → LogKept file log w out c n
     go (RuleRead.Refused m) r s =
-        let q : logOf file log w out ≡ (notRead m, w, out) = simp s (ap (λ (z : RuleRead). withRule {A = End} z (λ n. (notRead n, w, out)) (λ x. linesFrom file x noTrace (linesOf log) w out)) r) in
-        let p = same-ending c m n 0 (sym (ap (λ (a : End). a .0 .ending) q) ∙ e) in
-        let l = rule-number file m r in
-        (omega arith, unread (sym (p .1)) (q ∙ (λ i. (notRead (p .0 i), w, out))))
+        not-touched m (rule-number file m r)
+        (simp s (ap (λ (z : RuleRead). withRule {A = End} z (λ n. (notRead n, w, out)) (λ x. linesFrom file x noTrace (linesOf log) w out)) r))
     go (RuleRead.Rule x) r s =
         let q = read-first log x r s in
-        let g : Stopped file x w noTrace (linesOf log) out c n = stops file x w (linesOf log) noTrace out c n (sym (ap (λ (a : End). a .0 .ending) q) ∙ e) in
-        let l = line-number (g .trace) (g .line) c (g .why) in
-        let k : logOf file (start-of file x w (linesOf log) out c n g) w out ≡ (ended (g .trace) Ending.Read, workOf (g .trace .runs) w, g .out′) =
-        read-first (start-of file x w (linesOf log) out c n g) x r s ∙ (ap (λ (z : List (List ℕ)). linesFrom file x noTrace z w out) (start-lines file x w (linesOf log) out c n g) ∙ g .kept) in
-        (omega arith, stopped x (start-of file x w (linesOf log) out c n g) (g .line) (g .after) (g .trace) (g .out′) r (start-divides file x w (linesOf log) out c n g) (start-accepted file x w (linesOf log) out c n g) (start-number file x w (linesOf log) out c n g) (g .why) k (q ∙ g .answer))
+        let g : Stopped file x w noTrace (linesOf log) out c n = stops file x w (linesOf log) noTrace out c n (sym (ap (λ (z : End). z .0 .ending) q) ∙ e) in
+        let b : List ℕ = start-of file x w (linesOf log) out c n g in
+        let k : logOf file b w out ≡ (ended (g .trace) Ending.Read, workOf (g .trace .runs) w, g .out′) =
+        read-first b x r s ∙ (ap (λ (z : List (List ℕ)). linesFrom file x noTrace z w out) (start-lines file x w (linesOf log) out c n g) ∙ g .kept) in
+        let z = q ∙ g .answer in
+        let l = line-number (g .trace) (g .line) c (g .why) in (
+          omega arith,
+          stopped (first-refused file x w log out c n g) (ap (λ (y : End). y .0) z)
+              (k ∙ (λ i. (ended (g .trace) Ending.Read, sym (ap (λ (y : End). y .1) z) i, sym (ap (λ (y : End). y .2) z) i))),
+        )
+
+-- ── what the contracts say ──
+line-by : (file : List ℕ) (r : Record) (w line : List ℕ) (a : Checked) (w′ : List ℕ) → ChecksLine file r w line a w′
+    → (c : ℕ) → a .outcome ≡ Refused c → Listed c × (a ≡ refusing r c) × (w′ ≡ w)
+line-by file r w line a w′ h c e =
+    let k = handed file r w (h .decided) in
+    let z : LineKept r w (a, w′) = subst (LineKept r w) (sym (h .answer (k .0) (k .1))) (line-kept file r w line (k .0) (k .1)) in
+    let y = z c e in
+    (y .0, ap (λ (z : Checked × List ℕ). z .0) (y .1), ap (λ (z : Checked × List ℕ). z .1) (y .1))
+
+tallied-by : (file : List ℕ) (r : Record) (y : Tally) (w line : List ℕ) (a : Tallied) (w′ : List ℕ) → ChecksTallied file r y w line a w′
+    → (c : ℕ) → a .outcome ≡ Refused c → Listed c × (a ≡ refusingWith r y c) × (w′ ≡ w)
+tallied-by file r y w line a w′ h c e =
+    let k = handed file r w (h .decided) in
+    let z : TallyKept r y w (a, w′) = subst (TallyKept r y w) (sym (h .answer (k .0) (k .1))) (tallied-kept file r y w line (k .0) (k .1)) in
+    let q = z c e in
+    (q .0, ap (λ (z : Tallied × List ℕ). z .0) (q .1), ap (λ (z : Tallied × List ℕ). z .1) (q .1))
+
+log-by : (file log w out : List ℕ) (a : LogChecked) (w′ out′ : List ℕ) → ChecksLog file log w out a w′ out′
+    → (c n : ℕ) → a .ending ≡ Ending.Refused c n → Listed c × LogRefused file log w out c n a w′ out′
+log-by file log w out a w′ out′ h c n =
+    subst (λ (z : End). z .0 .ending ≡ Ending.Refused c n → Listed c × LogRefused file log w out c n (z .0) (z .1) (z .2)) (sym (h .answer)) (log-of-kept file log w out c n)
 
 pub demand-1 : Demand1
 demand-1 =
     record {
-      line = line-kept;
-      tallied = tallied-kept;
-      log = log-kept;
       line-met = line-met;
+      line-kept = line-by;
       tallied-met = tallied-met;
+      tallied-kept = tallied-by;
       log-met = log-met;
+      log-kept = log-by;
       start-met = start-met;
-      start = start-kept;
+      start-kept = start-kept;
       relate-met = relate-met;
       compose-met = compose-met;
       converse-met = converse-met;
+      next-met = next-met;
+      next-kept = λ p c. refl;
+      parse-met = parse-met;
+      rule-met = λ file q h c. (λ e. sym (h .answer) ∙ e, λ e. h .answer ∙ e);
+      rule-listed = rule-range;
     }

@@ -22,6 +22,8 @@ use Rattle.monitor.specs.Line.{judged}
 use Rattle.monitor.specs.Log.{ended, linesFrom}
 use Rattle.monitor.proofs.Lines.{from-none, from-taken, from-refused}
 use Rattle.monitor.proofs.LogMeans.{lines-accepted, taken-lines}
+use Rattle.claims.specs.WhereMet.{FirstRefused}
+use Rattle.claims.proofs.AfterMet.{after-met}
 
 -- ── outcomes ──
 pub same-refusal : (c d : ℕ) → Refused d ≡ Refused c → d ≡ c
@@ -125,3 +127,16 @@ module _ (file : List ℕ) (x : Rule) (w : List ℕ) where
 
     pub start-number : n ≡ length (linesOf start-of) + 1
     start-number = omega (arith, g .at, g .counted, ap length start-lines)
+
+  unfoldable pub first-refused : (log out : List ℕ) (c n : ℕ) → Stopped noTrace (linesOf log) out c n → FirstRefused log c n
+  first-refused log out c n g =
+      record {
+        before = start-of (linesOf log) out c n g;
+        line = g .line;
+        after = g .after;
+        trace = g .trace;
+        lines = start-divides (linesOf log) out c n g;
+        accepted = start-accepted (linesOf log) out c n g;
+        number = start-number (linesOf log) out c n g;
+        met = after-met (start-of (linesOf log) out c n g) (g .trace) (start-accepted (linesOf log) out c n g) (g .line) c .0 (g .why);
+      }

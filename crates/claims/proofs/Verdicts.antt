@@ -1,53 +1,90 @@
 -- Demand 2: what is noted and said after every accepted line.
-use Prim.Native.Nat.{ℕ, _≤_}
-use mathlib.Core.Path.{_≡_, refl, ap, sym, _∙_}
+use Prim.Native.Nat.{ℕ, _≤_, _<_}
+use mathlib.Core.Path.{_≡_, refl, ap, sym, _∙_, subst}
 use mathlib.Core.List.{List, [], _∷_}
 use mathlib.Core.Option.{some}
 use lib.ListN.{length}
 use borrow.Author.Tests.{lt-ltb, le-ltb}
 use Rattle.lists.proofs.Cases.{either-lt}
+use Rattle.lines.specs.Line.{eventOf}
 use Rattle.lines.specs.Log.{linesOf}
 use Rattle.trace.specs.declared.Record.{Record}
-use Rattle.trace.specs.Trace.{Trace, next, noTrace, read, steps, Accepted}
+use Rattle.trace.specs.declared.Run.{Run}
+use Rattle.trace.specs.Trace.{Trace, Answer, next, noTrace, apply, read, steps, Accepted}
+use Rattle.pairs.specs.declared.Started.{Started}
+use Rattle.pairs.specs.Pairs.{pairByte, workOf}
+use Rattle.pairs.specs.Start.{startOf}
+use Rattle.pairs.proofs.Grid.{getD-gridIn}
 use Rattle.pairs.proofs.Accepted.{pair-byte-names-the-order}
 use Rattle.relations.proofs.Pairs.{pair-byte-noted}
+use Rattle.trace.proofs.Grown.{no-bytes}
 use Rattle.rules.specs.declared.Rule.{Rule}
 use Rattle.rules.specs.declared.RuleRead.the-variants as RuleRead
 use Rattle.rules.specs.Rules.{ruleOf, formulaOf, Taken}
 use Rattle.rules.proofs.Rules.{reads-rule}
 use Rattle.logic.specs.declared.Verdict.{Verdict}
 use Rattle.logic.specs.Verdict.{verdictOf}
+use Rattle.monitor.specs.declared.Checked.{Checked}
 use Rattle.monitor.specs.declared.Ending.the-variants as Ending
 use Rattle.monitor.specs.Handed.{Left}
-use Rattle.monitor.specs.Line.{judged, stateOf, lineOf, TakenLine}
+use Rattle.monitor.specs.Line.{judged, lineAfter, stateOf, lineOf, TakenLine, ChecksLine}
 use Rattle.monitor.specs.Log.{ended, linesFrom, logOf}
 use Rattle.monitor.specs.Repeated.{Result}
-use Rattle.monitor.proofs.LineMeans.{judged-taken, verdict-says, line-means}
+use Rattle.monitor.proofs.LineMeans.{verdict-says}
 use Rattle.monitor.proofs.LineCall.{with-taken}
-use Rattle.monitor.proofs.Lines.{by-answer, from-none, from-taken}
-use Rattle.monitor.proofs.LogMeans.{same-trace, after-line, no-line, log-means}
-use Rattle.monitor.proofs.TallyLaws.{tallied-means}
-use Rattle.claims.specs.Demands.{Settled, Demand2}
+use Rattle.monitor.proofs.Lines.{work-over, by-answer, from-none, from-taken}
+use Rattle.monitor.proofs.LogMeans.{same-trace, after-line, no-line}
+use Rattle.monitor.proofs.Known.{pairs-long}
+use Rattle.monitor.proofs.Repeated.{left-by}
+use Rattle.monitor.proofs.Failing.{tally-starts, tally-taken}
+use Rattle.claims.specs.Demands.{Settled, GoesOn, Demand2}
 
 rule-taken : (file : List ℕ) (x : Rule) → ruleOf file ≡ RuleRead.Rule x → Taken file x
 rule-taken file x e = reads-rule file (RuleRead.Rule x) (sym e) .taken x refl
 
+no-pair : (rs : List Run) (j k : ℕ) → ((j < k) × (k < length rs) → ⊥) → pairByte rs j k ≡ 0
+unfolding pairByte
+no-pair rs j k n =
+    either-lt j k
+    (λ h. either-lt k (length rs) (λ l. absurd (n (h, l))) (λ l. simp (lt-ltb _ _ h, le-ltb _ _ l)))
+    (λ h. simp (le-ltb _ _ h))
+
 settled : (file : List ℕ) (x : Rule) → ruleOf file ≡ RuleRead.Rule x → (log : List ℕ) (t : Trace) → Accepted log t → Settled file x t (verdictOf t (formulaOf file x))
 settled file x e log t a =
     record {
+      place = λ w j k h l. getD-gridIn (pairByte (t .runs)) w j k h l;
       noted = λ j k. pair-byte-noted log t a j k;
       order = pair-byte-names-the-order log t a;
+      nothing = no-pair (t .runs);
       verdict = verdict-says file x (rule-taken file x e) t;
     }
 
-line-taken : (file : List ℕ) (x : Rule) → ruleOf file ≡ RuleRead.Rule x → (log : List ℕ) (t : Trace) (r : Record) (w line : List ℕ) → Left log t r w
-    → (v : Verdict) → lineOf file r w line (some t) .0 .outcome ≡ judged v
-    → TakenLine file x log line w v (lineOf file r w line (some t) .0 .state) (lineOf file r w line (some t) .1)
-unfolding lineOf stateOf
-line-taken file x e log t r w line l v =
-    either-lt (length w) 16384
-    (λ h. simp (lt-ltb _ _ h) (λ o. judged-taken v 20 (sym o)))
-    (λ h. line-means file x t w line _ _ (simp (le-ltb _ _ h) (with-taken (ruleOf file) x _ _ e)) (rule-taken file x e) log r (l .accepted) (l .encoded) .taken v)
+-- a record that is started is that of the log of no bytes
+started : (w : List ℕ) (a : Started) (w′ : List ℕ) → _≡_ {A = Started × List ℕ} (a, w′) (startOf w) → 16384 ≤ length w → Left [] noTrace (a .state) w′
+unfolding startOf
+started w a w′ e h =
+    subst (λ (z : Started × List ℕ). Left [] noTrace (z .0 .state) (z .1)) (sym e) (simp (le-ltb _ _ h) (left-by [] noTrace no-bytes w))
+
+-- what a taken line leaves can be handed to the next call
+line-goes-on : (file : List ℕ) (x : Rule) → ruleOf file ≡ RuleRead.Rule x → (log : List ℕ) (t : Trace) (r : Record) (w line : List ℕ) → Left log t r w
+    → (a : Checked) (w′ : List ℕ) → ChecksLine file r w line a w′ → (v : Verdict) → a .outcome ≡ judged v → GoesOn file x log line w v (a .state) w′
+line-goes-on file x e log t r w line l a w′ h v o =
+    let k : TakenLine file x log line w v (a .state) w′ = h .meaning x e log t l .taken v o in
+    record {
+      taken = k;
+      left = record {
+        accepted = k .accepted;
+        encoded = k .state;
+        pairs = k .pairs ∙ (sym (work-over (k .trace .runs) (k .trace .runs) w) ∙ ap (workOf (k .trace .runs)) (sym (k .pairs)));
+      };
+    }
+
+line-takes : (file : List ℕ) (x : Rule) → ruleOf file ≡ RuleRead.Rule x → (log : List ℕ) (t : Trace) (r : Record) (w line : List ℕ) → Left log t r w
+    → (a : Checked) (w′ : List ℕ) → ChecksLine file r w line a w′ → (u : Trace) → apply t (eventOf line) ≡ next u → a .outcome ≡ judged (verdictOf u (formulaOf file x))
+unfolding lineOf stateOf lineAfter
+line-takes file x e log t r w line l a w′ h u p =
+    let s : lineOf file r w line (some t) ≡ stateOf file x r w line (some t) = simp (le-ltb (length w) 16384 (pairs-long (t .runs) w w (l .pairs))) (with-taken (ruleOf file) x _ _ e) in
+    ap (λ (z : Checked × List ℕ). z .0 .outcome) (h .answer (some t) (λ _. (log, l)) ∙ s) ∙ ap (λ (z : Answer). lineAfter file x t w z .0 .outcome) p
 
 module _ (file : List ℕ) (x : Rule) (w : List ℕ) where
   -- lines that are taken are read to their end
@@ -75,8 +112,12 @@ pub demand-2 : Demand2
 demand-2 =
     record {
       settled = settled;
-      line = line-taken;
-      tallied = λ file x e log t r y w line l p. tallied-means file r y w line x e log t l p _ _ refl;
-      log = λ file x e log w out. log-means file log w out _ _ _ refl x e;
-      read = log-read;
+      start = started;
+      line = line-goes-on;
+      takes = line-takes;
+      tallied = λ file x e log t r y w line l p a w′ h. h .meaning x e log t l p;
+      zeros = tally-starts;
+      counted = tally-taken;
+      log = λ file x e log w out long room a w′ out′ h. h .meaning x e long room;
+      read = λ file x e log t k w out long room a w′ out′ h. ap (λ (z : Result). z .0) (h .answer) ∙ log-read file x e log t k w out long room;
     }

@@ -1,7 +1,7 @@
 -- Demand 1: each refusal is met just where the list says. Each call is taken apart by its own order, and a record that is handed in
--- stands for one trace at most, so that it makes no difference which lines have left it.
+-- stands for one trace at most (`one-trace`), so that it makes no difference which lines have left it.
 use Prim.Native.Nat.{ℕ, _+_, _≤_, _<_}
-use mathlib.Core.Path.{_≡_, refl, ap, sym, _∙_}
+use mathlib.Core.Path.{_≡_, refl, ap, sym, _∙_, subst}
 use mathlib.Core.Logic.{_↔_}
 use mathlib.Core.List.{List, [], _∷_, _++_}
 use mathlib.Core.Option.{Option, none, some}
@@ -15,9 +15,6 @@ use Rattle.lines.specs.Line.{eventOf}
 use Rattle.lines.specs.Log.{linesOf}
 use Rattle.trace.specs.declared.Record.{Record}
 use Rattle.trace.specs.Trace.{Trace, Answer, next, refused, noTrace, apply, read, steps}
-use Rattle.trace.specs.Record.{recordOf}
-use Rattle.trace.specs.Replay.{replayed}
-use Rattle.trace.proofs.ReadBack.{Leaves, accepted-leaves, read-back}
 use Rattle.trace.proofs.Taken.{step-lines}
 use Rattle.rules.specs.declared.Rule.{Rule}
 use Rattle.rules.specs.declared.RuleRead.{RuleRead}
@@ -29,30 +26,28 @@ use Rattle.monitor.specs.declared.Checked.{Checked}
 use Rattle.monitor.specs.declared.Ending.the-variants as Ending
 use Rattle.monitor.specs.declared.Tally.{Tally}
 use Rattle.monitor.specs.declared.Tallied.{Tallied}
+use Rattle.monitor.specs.declared.LogChecked.{LogChecked}
 use Rattle.monitor.specs.Handed.{Left, HandedBy, Reached}
-use Rattle.monitor.specs.Line.{refusing, lineAfter, stateOf, withRule, lineOf}
-use Rattle.monitor.specs.Tally.{refusingWith, counts?, talliedAfter, talliedState, talliedOf}
-use Rattle.monitor.specs.Log.{notRead, linesFrom, logOf}
+use Rattle.monitor.specs.Line.{refusing, lineAfter, stateOf, withRule, lineOf, ChecksLine}
+use Rattle.monitor.specs.Tally.{refusingWith, counts?, talliedAfter, talliedState, talliedOf, ChecksTallied}
+use Rattle.monitor.specs.Log.{notRead, linesFrom, logOf, ChecksLog}
+use Rattle.monitor.proofs.Known.{one-trace}
+use Rattle.monitor.proofs.LineCall.{no-rule}
 use Rattle.monitor.proofs.Lines.{by-answer, from-taken, from-refused}
 use Rattle.monitor.proofs.LogMeans.{same-trace, after-line, no-line}
-use Rattle.claims.specs.WhereMet.{MetLine, line-short, line-rule, line-unknown, line-refused, MetTallied, tallied-short, tallied-rule, tallied-unknown, tallied-wrong, tallied-refused, MetLog, log-short-work, log-short-verdicts, log-rule, log-refused}
-use Rattle.claims.proofs.Stops.{same-refusal, not-judged, End, same-ending, Stopped, stops, start-of, start-accepted, start-divides, start-number}
+use Rattle.claims.specs.WhereMet.{Unknown, MetLine, line-short, line-rule, line-unknown, line-refused, MetTallied, tallied-short, tallied-rule, tallied-unknown, tallied-wrong, tallied-refused, MetLog, log-short-work, log-short-verdicts, log-rule, log-refused}
+use Rattle.claims.proofs.Stops.{same-refusal, not-judged, End, same-ending, Stopped, stops, first-refused}
+use Rattle.claims.proofs.AfterMet.{after-met}
 
--- ── one record, one trace ──
-replay-is : (r : Record) (t : Trace) → Leaves t → r ≡ recordOf t → replayed r (r .lines .0) ≡ next t
-unfolding recordOf
-replay-is r t l e = ap (λ (x : Record). replayed x (x .lines .0)) e ∙ read-back l
-
--- all lines that leave a record leave one trace
-one-trace : (r : Record) (w log log′ : List ℕ) (t u : Trace) → Left log t r w → Left log′ u r w → t ≡ u
-one-trace r w log log′ t u a b =
-    same-trace t u (sym (replay-is r t (accepted-leaves log t (a .accepted)) (a .encoded)) ∙ replay-is r u (accepted-leaves log′ u (b .accepted)) (b .encoded))
+-- 21 is decided where it is looked for; elsewhere it makes no difference
+pub handed : (file : List ℕ) (r : Record) (w : List ℕ) → (Reached file w → (k : Option Trace) × HandedBy r w k) → (k : Option Trace) × (Reached file w → HandedBy r w k)
+handed file r w d = either-lt (length w) 16384 (λ s. (none, λ q. absurd (omega (arith, q .long)))) (λ s. go (ruleOf file) refl s)
+  where
+    go : (q : RuleRead) → ruleOf file ≡ q → 16384 ≤ length w → (k : Option Trace) × (Reached file w → HandedBy r w k)
+    go (RuleRead.Refused n) p s = (none, λ q. no-rule (ruleOf file) n (q .rule) p (q .taken))
+    go (RuleRead.Rule x) p s = let g = d (record { long = s; rule = x; taken = p }) in (g .0, λ _. g .1)
 
 -- ── one line ──
--- no accepted lines leave the record and the pair bytes
-abbrev Unknown : Record → List ℕ → Type 0
-Unknown r w = (log : List ℕ) (t : Trace) → Left log t r w → ⊥
-
 module _ (file : List ℕ) (r : Record) (w line : List ℕ) where
   -- 21, then the line
   module _ (x : Rule) where
@@ -63,7 +58,7 @@ module _ (file : List ℕ) (r : Record) (w line : List ℕ) where
       where
         go : (a : Answer) → apply t (eventOf line) ≡ a → lineAfter file x t w a .0 .outcome ≡ Refused c → MetLine file r w line c
         go (next u) q e = not-judged (verdictOf u (formulaOf file x)) c e
-        go (refused d) q e = line-refused g (h .0) t (h .1) (q ∙ ap refused (same-refusal c d e))
+        go (refused d) q e = line-refused g (h .0) t (h .1) (after-met (h .0) t (h .1 .accepted) line c .0 (q ∙ ap refused (same-refusal c d e)))
 
     state-unknown : (k : Option Trace) → HandedBy r w k → Unknown r w → stateOf file x r w line k .0 .outcome ≡ Refused 21
     unfolding stateOf
@@ -91,10 +86,10 @@ module _ (file : List ℕ) (r : Record) (w line : List ℕ) where
     unfolding lineOf byRule
     of-rule s q e = simp (le-ltb _ _ s) (ap (λ (z : RuleRead). byRule z .0 .outcome) e)
 
-pub line-met : (file : List ℕ) (r : Record) (w line : List ℕ) (k : Option Trace) → (Reached file w → HandedBy r w k) → (c : ℕ)
+line-of-met : (file : List ℕ) (r : Record) (w line : List ℕ) (k : Option Trace) → (Reached file w → HandedBy r w k) → (c : ℕ)
     → (lineOf file r w line k .0 .outcome ≡ Refused c) ↔ MetLine file r w line c
 unfolding byRule withRule
-line-met file r w line k h c = (forth, back)
+line-of-met file r w line k h c = (forth, back)
   where
     short : length w < 16384 → lineOf file r w line k .0 .outcome ≡ Refused 20
     short = of-short file r w line k
@@ -118,7 +113,13 @@ line-met file r w line k h c = (forth, back)
     back (line-short s e) = short s ∙ ap Refused (sym e)
     back (line-rule s q) = rule s _ q
     back (line-unknown g n e) = rule (g .long) _ (g .taken) ∙ (state-unknown file r w line (g .rule) k (h g) n ∙ ap Refused (sym e))
-    back (line-refused g log t l e) = rule (g .long) _ (g .taken) ∙ state-refused file r w line (g .rule) k (h g) log t l c e
+    back (line-refused g log t l e) = rule (g .long) _ (g .taken) ∙ state-refused file r w line (g .rule) k (h g) log t l c (after-met log t (l .accepted) line c .1 e)
+
+pub line-met : (file : List ℕ) (r : Record) (w line : List ℕ) (a : Checked) (w′ : List ℕ) → ChecksLine file r w line a w′
+    → (c : ℕ) → (a .outcome ≡ Refused c) ↔ MetLine file r w line c
+line-met file r w line a w′ h c =
+    let k = handed file r w (h .decided) in
+    subst (λ (z : Checked × List ℕ). (z .0 .outcome ≡ Refused c) ↔ MetLine file r w line c) (sym (h .answer (k .0) (k .1))) (line-of-met file r w line (k .0) (k .1) c)
 
 -- ── one line with a tally ──
 module _ (file : List ℕ) (r : Record) (y : Tally) (w line : List ℕ) where
@@ -142,7 +143,7 @@ module _ (file : List ℕ) (r : Record) (y : Tally) (w line : List ℕ) where
       where
         go : counts? t y ≡ true → (a : Answer) → apply t (eventOf line) ≡ a → MetTallied file r y w line c
         go b (next u) q = not-judged (verdictOf u (formulaOf file x)) c (sym (of-right t b (next u) q) ∙ e)
-        go b (refused d) q = tallied-refused g (h .0) t (h .1) b (q ∙ ap refused (same-refusal c d (sym (of-right t b (refused d) q) ∙ e)))
+        go b (refused d) q = tallied-refused g (h .0) t (h .1) b (after-met (h .0) t (h .1 .accepted) line c .0 (q ∙ ap refused (same-refusal c d (sym (of-right t b (refused d) q) ∙ e))))
 
     tally-unknown : (k : Option Trace) → HandedBy r w k → Unknown r w → talliedState file x r y w line k .0 .outcome ≡ Refused 21
     unfolding talliedState
@@ -175,10 +176,10 @@ module _ (file : List ℕ) (r : Record) (y : Tally) (w line : List ℕ) where
     unfolding talliedOf tallyRule
     tally-rule s q e = simp (le-ltb _ _ s) (ap (λ (z : RuleRead). tallyRule z .0 .outcome) e)
 
-pub tallied-met : (file : List ℕ) (r : Record) (y : Tally) (w line : List ℕ) (k : Option Trace) → (Reached file w → HandedBy r w k) → (c : ℕ)
+tallied-of-met : (file : List ℕ) (r : Record) (y : Tally) (w line : List ℕ) (k : Option Trace) → (Reached file w → HandedBy r w k) → (c : ℕ)
     → (talliedOf file r y w line k .0 .outcome ≡ Refused c) ↔ MetTallied file r y w line c
 unfolding tallyRule withRule
-tallied-met file r y w line k h c = (forth, back)
+tallied-of-met file r y w line k h c = (forth, back)
   where
     short : length w < 16384 → talliedOf file r y w line k .0 .outcome ≡ Refused 20
     short = tally-short file r y w line k
@@ -203,8 +204,15 @@ tallied-met file r y w line k h c = (forth, back)
     back (tallied-rule s q) = rule s _ q
     back (tallied-unknown g n e) = rule (g .long) _ (g .taken) ∙ (tally-unknown file r y w line (g .rule) k (h g) n ∙ ap Refused (sym e))
     back (tallied-wrong g log t l b e) = rule (g .long) _ (g .taken) ∙ (tally-wrong file r y w line (g .rule) k (h g) log t l b ∙ ap Refused (sym e))
-    back (tallied-refused g log t l b e) = rule (g .long) _ (g .taken) ∙ tally-refused file r y w line (g .rule) k (h g) log t l b c e
+    back (tallied-refused g log t l b e) = rule (g .long) _ (g .taken) ∙ tally-refused file r y w line (g .rule) k (h g) log t l b c (after-met log t (l .accepted) line c .1 e)
 
+pub tallied-met : (file : List ℕ) (r : Record) (y : Tally) (w line : List ℕ) (a : Tallied) (w′ : List ℕ) → ChecksTallied file r y w line a w′
+    → (c : ℕ) → (a .outcome ≡ Refused c) ↔ MetTallied file r y w line c
+tallied-met file r y w line a w′ h c =
+    let k = handed file r w (h .decided) in
+    subst (λ (z : Tallied × List ℕ). (z .0 .outcome ≡ Refused c) ↔ MetTallied file r y w line c) (sym (h .answer (k .0) (k .1))) (tallied-of-met file r y w line (k .0) (k .1) c)
+
+-- ── a whole log ──
 module _ (file : List ℕ) (x : Rule) (w : List ℕ) (line : List ℕ) (after : List (List ℕ)) (t : Trace) (c : ℕ) (e : apply t (eventOf line) ≡ refused c) where
   -- the lines from s on stop at the line that is refused
   from-stop : (before : List (List ℕ)) (s : Trace) (out : List ℕ) (n : ℕ) → steps (next s) before ≡ next t → n ≡ s .lines + length before + 1
@@ -245,9 +253,9 @@ module _ (w out : List ℕ) where
         let b : ltb (length w) 16384 || ltb (length out) 256 ≡ false = simp (le-ltb _ _ s, le-ltb _ _ v) in
         simp b (ap (λ (z : RuleRead). logRule z .0 .ending) e)
 
-pub log-met : (file log w out : List ℕ) (c n : ℕ) → (logOf file log w out .0 .ending ≡ Ending.Refused c n) ↔ MetLog file log w out c n
+log-of-met : (file log w out : List ℕ) (c n : ℕ) → (logOf file log w out .0 .ending ≡ Ending.Refused c n) ↔ MetLog file log w out c n
 unfolding logRule withRule read
-log-met file log w out c n = (forth, back)
+log-of-met file log w out c n = (forth, back)
   where
     short : Short w out → logOf file log w out .0 .ending ≡ Ending.Refused 20 0
     short = log-short w out file log
@@ -261,7 +269,7 @@ log-met file log w out c n = (forth, back)
         log-rule s v (q ∙ ap RuleRead.Refused (p .0)) (sym (p .1))
     reading s v (RuleRead.Rule x) q e =
         let g : Stopped file x w noTrace (linesOf log) out c n = stops file x w (linesOf log) noTrace out c n (sym (rule s v _ q) ∙ e) in
-        log-refused s v x q (start-of file x w (linesOf log) out c n g) (g .line) (g .after) (g .trace) (start-divides file x w (linesOf log) out c n g) (start-accepted file x w (linesOf log) out c n g) (start-number file x w (linesOf log) out c n g) (g .why)
+        log-refused s v x q (first-refused file x w log out c n g)
 
     forth : logOf file log w out .0 .ending ≡ Ending.Refused c n → MetLog file log w out c n
     forth e =
@@ -276,6 +284,13 @@ log-met file log w out c n = (forth, back)
     back (log-short-work s e m) = short (short-work w out s) ∙ (λ i. Ending.Refused (sym e i) (sym m i))
     back (log-short-verdicts s e m) = short (short-verdicts w out s) ∙ (λ i. Ending.Refused (sym e i) (sym m i))
     back (log-rule s v q m) = rule s v _ q ∙ ap (Ending.Refused c) (sym m)
-    back (log-refused s v x q before line after t ls p m e) =
+    back (log-refused s v x q f) =
+        let e = after-met (f .before) (f .trace) (f .accepted) (f .line) c .1 (f .met) in
         rule s v _ q
-        ∙ (ap (λ (z : List (List ℕ)). linesFrom file x noTrace z w out .0 .ending) ls ∙ from-stop file x w line after t c e (linesOf before) noTrace out n (p .leaves) (omega (arith, m)))
+        ∙ (ap (λ (z : List (List ℕ)). linesFrom file x noTrace z w out .0 .ending) (f .lines)
+        ∙ from-stop file x w (f .line) (f .after) (f .trace) c e (linesOf (f .before)) noTrace out n (f .accepted .leaves) (omega (arith, f .number)))
+
+pub log-met : (file log w out : List ℕ) (a : LogChecked) (w′ out′ : List ℕ) → ChecksLog file log w out a w′ out′
+    → (c n : ℕ) → (a .ending ≡ Ending.Refused c n) ↔ MetLog file log w out c n
+log-met file log w out a w′ out′ h c n =
+    subst (λ (z : End). (z .0 .ending ≡ Ending.Refused c n) ↔ MetLog file log w out c n) (sym (h .answer)) (log-of-met file log w out c n)

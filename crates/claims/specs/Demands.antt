@@ -1,115 +1,167 @@
--- The three demands, as three statements. They speak of the definitions to which the calls' contracts equate their answers and
--- the contents of every lent buffer: `lineOf` (`monitor::check_line`), `talliedOf` (`monitor::check_line_tallied`), `logOf`
--- (`monitor::check_log`), `startOf` (`pairs::start_record`), `composedOf` and `composeOf` (`relations::compose`), `conversedOf`
--- (`relations::converse`); of `relations::relate` they speak by its contract `Relating`. That a call ends and does nothing undefined
--- is proved of every function.
-use Prim.Native.Nat.{ℕ, _+_, _≤_, _<_}
+-- The three demands, as three statements about whatever the calls answer by their contracts. A contract gives the answer and the
+-- contents of every lent buffer at exit: a, w′ and out′ below. That a call ends and does nothing undefined is proved of every function.
+--
+-- The words of this page, and where they are defined:
+--   Accepted log t      no line of log meets a refusal, and the trace t is what its lines leave      trace/specs/Trace.antt
+--   Left log t r w      they leave the record r and the pair bytes of the work area w                monitor/specs/Handed.antt
+--   ChecksLine, ChecksTallied, ChecksLog    the contracts of the calls of `monitor`                  monitor/specs/Line, Tally, Log.antt
+--   startOf, Relating, Composition, Conversed    those of start_record, relate, compose, converse    pairs/, relations/specs
+--   ReadsRule, nextLine, parsedOf    those of read_rule, next_line, parse_line                       rules/, lines/specs
+--   MetLine .. MetCompose    where a call meets a refusal                                            claims/specs/WhereMet.antt
+--   Says t f v          v is "holds" if and only if the lines satisfy the formula f                  logic/specs/Verdict.antt
+--   formulaOf file x    the formula of a rule file                                                   rules/specs/Rules.antt
+--   TakenLine, TalliedMeans, LogMeans    what an answer says of the log                              monitor/specs
+--   pairByte, workOf    the byte of two runs, and the work area with all of them                     pairs/specs/Pairs.antt
+--   Shown log a b r     the log shows r by three runs through members of a and b                     relations/specs/Compose.antt
+use Prim.Native.Nat.{ℕ, _+_, _*_, _≤_, _<_}
 use mathlib.Core.Path.{_≡_}
 use mathlib.Core.Logic.{_↔_}
-use mathlib.Core.Bool.{true}
-use mathlib.Core.List.{List, _∷_, _++_}
-use mathlib.Core.Option.{Option, some}
-use lib.ListN.{length}
-use Rattle.lines.specs.Line.{eventOf}
-use Rattle.lines.specs.Log.{linesOf}
+use mathlib.Core.Bool.{true, false}
+use mathlib.Core.List.{List, [], _++_}
+use lib.ListN.{length, getD, take, drop}
+use Rattle.lists.specs.Lists.{has?}
+use Rattle.lines.specs.Event.{faulty}
+use Rattle.lines.specs.Line.{eventOf, parsedOf}
+use Rattle.lines.specs.Log.{nextLine, placeAfter}
+use Rattle.lines.specs.declared.Next.the-variants as Next
+use Rattle.lines.specs.declared.Parsed.the-variants as Parsed
 use Rattle.trace.specs.declared.Record.{Record}
 use Rattle.trace.specs.declared.RunNo.{RunNo}
-use Rattle.trace.specs.Trace.{Trace, refused, apply, runAt, Accepted}
+use Rattle.trace.specs.Trace.{Trace, next, noTrace, apply, runAt, Accepted}
+use Rattle.pairs.specs.declared.Started.{Started}
+use Rattle.pairs.specs.declared.Start.the-variants as Start
 use Rattle.pairs.specs.Pairs.{pairByte, workOf}
 use Rattle.pairs.specs.Word.{nameOf, wordOf}
 use Rattle.pairs.specs.Start.{startOf}
-use Rattle.pairs.specs.declared.Start.the-variants as Start
 use Rattle.relations.specs.declared.Related.{Related}
 use Rattle.relations.specs.declared.Related.the-variants as Related
+use Rattle.relations.specs.declared.Composed.{Composed}
 use Rattle.relations.specs.declared.Composed.the-variants as Composed
-use Rattle.relations.specs.Sets.{conversedOf}
-use Rattle.relations.specs.Runs.{Relating}
+use Rattle.relations.specs.Relation.{Relation}
+use Rattle.relations.specs.Sets.{Member}
+use Rattle.relations.specs.Runs.{Relating, Conversed}
 use Rattle.relations.specs.Pairs.{Noted}
-use Rattle.relations.specs.Compose.{composedOf}
-use Rattle.relations.specs.Compose as Compose
+use Rattle.relations.specs.Compose.{Composition, Shown, ShownByThree}
 use Rattle.rules.specs.declared.Rule.{Rule}
+use Rattle.rules.specs.declared.RuleRead.{RuleRead}
 use Rattle.rules.specs.declared.RuleRead.the-variants as RuleRead
-use Rattle.rules.specs.Rules.{ruleOf, formulaOf}
+use Rattle.rules.specs.Rules.{ruleOf, formulaOf, ReadsRule}
 use Rattle.logic.specs.declared.Verdict.{Verdict}
 use Rattle.logic.specs.Verdict.{verdictOf, Says}
 use Rattle.monitor.specs.declared.Outcome.the-variants.{Refused}
 use Rattle.monitor.specs.declared.Ending.the-variants as Ending
+use Rattle.monitor.specs.declared.Checked.{Checked}
 use Rattle.monitor.specs.declared.Tally.{Tally}
-use Rattle.monitor.specs.Handed.{Left, HandedBy, Reached}
-use Rattle.monitor.specs.Line.{judged, refusing, lineOf, TakenLine}
-use Rattle.monitor.specs.Tally.{counts?, refusingWith, talliedOf, TalliedMeans}
-use Rattle.monitor.specs.Log.{ended, notRead, logOf, LogMeans}
-use Rattle.claims.specs.WhereMet.{MetLine, MetTallied, MetLog, MetRelate, MetCompose}
+use Rattle.monitor.specs.declared.Tallied.{Tallied}
+use Rattle.monitor.specs.declared.LogChecked.{LogChecked}
+use Rattle.monitor.specs.Handed.{Left}
+use Rattle.monitor.specs.Line.{judged, refusing, TakenLine, ChecksLine}
+use Rattle.monitor.specs.Tally.{counts?, refusingWith, tallyAfter, TalliedMeans, ChecksTallied}
+use Rattle.monitor.specs.Log.{ended, notRead, logOf, LogMeans, ChecksLog}
+use Rattle.claims.specs.WhereMet.{MetLine, MetTallied, FirstRefused, MetLog, MetRelate, MetCompose}
 
 -- ── demand 1 ──
--- "Each refusal is on the numbered list"
+-- "If any log, rule file, carried record or lent buffer comes in, the call ends and does nothing undefined. Each refusal is on the
+-- numbered list, is met just where the list says, and changes nothing that earlier lines had settled."
 abbrev pub Listed : ℕ → Type 0
 Listed c = (1 ≤ c) × (c ≤ 24)
 
 -- A whole log that is refused with c at line n: for a buffer or the rule, before any line is read, and nothing is touched; or at the
--- first line that meets a refusal, and the record, the work area and the verdict bytes are those that the lines before it leave.
-pub data LogRefused (file log w out : List ℕ) (c n : ℕ) : Type 0 where
-  unread : n ≡ 0 → logOf file log w out ≡ (notRead c, w, out) → LogRefused file log w out c n
-  stopped : (x : Rule) (before line : List ℕ) (after : List (List ℕ)) (t : Trace) (out′ : List ℕ)
-      → ruleOf file ≡ RuleRead.Rule x
-      → linesOf log ≡ linesOf before ++ (line ∷ after)
-      → Accepted before t → n ≡ length (linesOf before) + 1
-      → apply t (eventOf line) ≡ refused c
-      → logOf file before w out ≡ (ended t Ending.Read, workOf (t .runs) w, out′)
-      → logOf file log w out ≡ (ended t (Ending.Refused c n), workOf (t .runs) w, out′)
-      → LogRefused file log w out c n
+-- first line that is refused, and the record, the work area and the verdict bytes are those that the call leaves for the lines before.
+pub data LogRefused (file log w out : List ℕ) (c n : ℕ) (a : LogChecked) (w′ out′ : List ℕ) : Type 0 where
+  unread : n ≡ 0 → a ≡ notRead c → w′ ≡ w → out′ ≡ out → LogRefused file log w out c n a w′ out′
+  stopped : (f : FirstRefused log c n) → a ≡ ended (f .trace) (Ending.Refused c n)
+      → logOf file (f .before) w out ≡ (ended (f .trace) Ending.Read, w′, out′)
+      → LogRefused file log w out c n a w′ out′
 
--- "Each refusal is on the numbered list, is met just where the list says, and changes nothing that earlier lines had settled."
 pub record Demand1 : Type 0 where
-  -- "is on the numbered list .. and changes nothing that earlier lines had settled"
-  pub line : (file : List ℕ) (r : Record) (w line : List ℕ) (k : Option Trace) → (Reached file w → HandedBy r w k) → (c : ℕ) → lineOf file r w line k .0 .outcome ≡ Refused c
-      → Listed c × (lineOf file r w line k ≡ (refusing r c, w))
-  pub tallied : (file : List ℕ) (r : Record) (y : Tally) (w line : List ℕ) (k : Option Trace) → (Reached file w → HandedBy r w k) → (c : ℕ) → talliedOf file r y w line k .0 .outcome ≡ Refused c
-      → Listed c × (talliedOf file r y w line k ≡ (refusingWith r y c, w))
-  pub log : (file log w out : List ℕ) (c n : ℕ) → logOf file log w out .0 .ending ≡ Ending.Refused c n → Listed c × LogRefused file log w out c n
-  -- "is met just where the list says": a call answers c if and only if c is met
-  pub line-met : (file : List ℕ) (r : Record) (w line : List ℕ) (k : Option Trace) → (Reached file w → HandedBy r w k) → (c : ℕ)
-      → (lineOf file r w line k .0 .outcome ≡ Refused c) ↔ MetLine file r w line c
-  pub tallied-met : (file : List ℕ) (r : Record) (y : Tally) (w line : List ℕ) (k : Option Trace) → (Reached file w → HandedBy r w k) → (c : ℕ)
-      → (talliedOf file r y w line k .0 .outcome ≡ Refused c) ↔ MetTallied file r y w line c
-  pub log-met : (file log w out : List ℕ) (c n : ℕ) → (logOf file log w out .0 .ending ≡ Ending.Refused c n) ↔ MetLog file log w out c n
-  -- starting a record: 20, and then the work area is as it was
-  pub start-met : (w : List ℕ) (c : ℕ) → (startOf w .0 .outcome ≡ Start.Refused c) ↔ ((length w < 16384) × (c ≡ 20))
-  pub start : (w : List ℕ) (c : ℕ) → startOf w .0 .outcome ≡ Start.Refused c → startOf w .1 ≡ w
+  -- one line: "is met just where the list says"; "is on the numbered list .. and changes nothing that earlier lines had settled"
+  pub line-met : (file : List ℕ) (r : Record) (w line : List ℕ) (a : Checked) (w′ : List ℕ) → ChecksLine file r w line a w′
+      → (c : ℕ) → (a .outcome ≡ Refused c) ↔ MetLine file r w line c
+  pub line-kept : (file : List ℕ) (r : Record) (w line : List ℕ) (a : Checked) (w′ : List ℕ) → ChecksLine file r w line a w′
+      → (c : ℕ) → a .outcome ≡ Refused c → Listed c × (a ≡ refusing r c) × (w′ ≡ w)
+  -- one line with a tally
+  pub tallied-met : (file : List ℕ) (r : Record) (y : Tally) (w line : List ℕ) (a : Tallied) (w′ : List ℕ) → ChecksTallied file r y w line a w′
+      → (c : ℕ) → (a .outcome ≡ Refused c) ↔ MetTallied file r y w line c
+  pub tallied-kept : (file : List ℕ) (r : Record) (y : Tally) (w line : List ℕ) (a : Tallied) (w′ : List ℕ) → ChecksTallied file r y w line a w′
+      → (c : ℕ) → a .outcome ≡ Refused c → Listed c × (a ≡ refusingWith r y c) × (w′ ≡ w)
+  -- a whole log
+  pub log-met : (file log w out : List ℕ) (a : LogChecked) (w′ out′ : List ℕ) → ChecksLog file log w out a w′ out′
+      → (c n : ℕ) → (a .ending ≡ Ending.Refused c n) ↔ MetLog file log w out c n
+  pub log-kept : (file log w out : List ℕ) (a : LogChecked) (w′ out′ : List ℕ) → ChecksLog file log w out a w′ out′
+      → (c n : ℕ) → a .ending ≡ Ending.Refused c n → Listed c × LogRefused file log w out c n a w′ out′
+  -- starting a record
+  pub start-met : (w : List ℕ) (a : Started) (w′ : List ℕ) → _≡_ {A = Started × List ℕ} (a, w′) (startOf w)
+      → (c : ℕ) → (a .outcome ≡ Start.Refused c) ↔ ((length w < 16384) × (c ≡ 20))
+  pub start-kept : (w : List ℕ) (a : Started) (w′ : List ℕ) → _≡_ {A = Started × List ℕ} (a, w′) (startOf w)
+      → (c : ℕ) → a .outcome ≡ Start.Refused c → w′ ≡ w
   -- relating two runs, and sets of relations: no buffer is lent
   pub relate-met : (r : Record) (a b : RunNo) (v : Related) → Relating r a b v → (c : ℕ) → (v ≡ Related.Refused c) ↔ MetRelate r (a .0) (b .0) c
-  pub compose-met : (a b c : ℕ) → (composedOf a b ≡ Composed.Refused c) ↔ MetCompose a b c
-  pub converse-met : (a c : ℕ) → (conversedOf a ≡ Composed.Refused c) ↔ ((63 < a) × (c ≡ 14))
+  pub compose-met : (a b : ℕ) (v : Composed) → Composition a b v → (c : ℕ) → (v ≡ Composed.Refused c) ↔ MetCompose a b c
+  pub converse-met : (a : ℕ) (v : Composed) → Conversed a v → (c : ℕ) → (v ≡ Composed.Refused c) ↔ ((63 < a) × (c ≡ 14))
+  -- reading: the next line of a log ("with no LF among the next 40 bytes it answers 11 and keeps its place"), one line, a rule file
+  pub next-met : (log : List ℕ) (p c : ℕ) → (nextLine log p ≡ Next.Refused c) ↔ ((p < length log) × (has? 10 (take 40 (drop p log)) ≡ false) × (c ≡ 11))
+  pub next-kept : (p c : ℕ) → placeAfter (Next.Refused c) p ≡ p
+  pub parse-met : (line : List ℕ) (c : ℕ) → (parsedOf line ≡ Parsed.Refused c) ↔ (eventOf line ≡ faulty c)
+  pub rule-met : (file : List ℕ) (q : RuleRead) → ReadsRule file q → (c : ℕ) → (q ≡ RuleRead.Refused c) ↔ (ruleOf file ≡ RuleRead.Refused c)
+  pub rule-listed : (file : List ℕ) (c : ℕ) → ruleOf file ≡ RuleRead.Refused c → (1 ≤ c) × (c ≤ 10)
 
 -- ── demand 2 ──
 -- "After every accepted line, the relation noted for each pair of runs is the one that their line positions give, and the verdict is
 -- "holds" if and only if the rule, as the published interval logic defines it, is true of the lines read so far."
 pub record Settled (file : List ℕ) (x : Rule) (t : Trace) (v : Verdict) : Type 0 where
-  -- the byte of each two runs: 5, 6, 7 exactly where both are finished and the one is before, overlaps or includes the other; and
-  -- always the order in which their lines stand
+  -- the byte of runs a and b in the work area
+  pub place : (w : List ℕ) (a b : ℕ) → a < 128 → b < 128 → getD (workOf (t .runs) w) (128 * a + b) 0 ≡ pairByte (t .runs) a b
+  -- it is 5, 6, 7 exactly where both are finished and the one is before, overlaps or includes the other; of two runs it always names
+  -- the order in which their lines stand; otherwise it is 0
   pub noted : (a b : ℕ) → Noted t a b
   pub order : (a b : ℕ) → a < b → b < length (t .runs) → pairByte (t .runs) a b ≡ nameOf (wordOf (t .lines) (runAt t a) (runAt t b))
+  pub nothing : (a b : ℕ) → ((a < b) × (b < length (t .runs)) → ⊥) → pairByte (t .runs) a b ≡ 0
   pub verdict : Says t (formulaOf file x) v
+
+-- what a taken line leaves: the record, the pair bytes and the verdict of the log with the line, ready for the next line
+pub record GoesOn (file : List ℕ) (x : Rule) (log line w : List ℕ) (v : Verdict) (r : Record) (w′ : List ℕ) : Type 0 where
+  pub taken : TakenLine file x log line w v r w′
+  pub left : Left (log ++ line) (taken .trace) r w′
 
 pub record Demand2 : Type 0 where
   -- of every accepted log, and every rule that is taken
   pub settled : (file : List ℕ) (x : Rule) → ruleOf file ≡ RuleRead.Rule x → (log : List ℕ) (t : Trace) → Accepted log t → Settled file x t (verdictOf t (formulaOf file x))
-  -- so after every line that the single-line call takes: what it answers and leaves is that of the log with the line
+  -- a record that is started is that of no lines
+  pub start : (w : List ℕ) (a : Started) (w′ : List ℕ) → _≡_ {A = Started × List ℕ} (a, w′) (startOf w) → 16384 ≤ length w → Left [] noTrace (a .state) w′
+  -- so after every line that the single-line call takes; and it takes each line that meets no refusal
   pub line : (file : List ℕ) (x : Rule) → ruleOf file ≡ RuleRead.Rule x → (log : List ℕ) (t : Trace) (r : Record) (w line : List ℕ) → Left log t r w
-      → (v : Verdict) → lineOf file r w line (some t) .0 .outcome ≡ judged v
-      → TakenLine file x log line w v (lineOf file r w line (some t) .0 .state) (lineOf file r w line (some t) .1)
-  -- the call with a tally answers the same, and the tally of the log becomes that of the log with the line
+      → (a : Checked) (w′ : List ℕ) → ChecksLine file r w line a w′ → (v : Verdict) → a .outcome ≡ judged v → GoesOn file x log line w v (a .state) w′
+  pub takes : (file : List ℕ) (x : Rule) → ruleOf file ≡ RuleRead.Rule x → (log : List ℕ) (t : Trace) (r : Record) (w line : List ℕ) → Left log t r w
+      → (a : Checked) (w′ : List ℕ) → ChecksLine file r w line a w′ → (u : Trace) → apply t (eventOf line) ≡ next u → a .outcome ≡ judged (verdictOf u (formulaOf file x))
+  -- the call with a tally answers the same; a tally "starts at zeros", and that of the log becomes that of the log with the line
   pub tallied : (file : List ℕ) (x : Rule) → ruleOf file ≡ RuleRead.Rule x → (log : List ℕ) (t : Trace) (r : Record) (y : Tally) (w line : List ℕ) → Left log t r w
-      → counts? t y ≡ true → TalliedMeans file x log t r y w line (talliedOf file r y w line (some t) .0) (talliedOf file r y w line (some t) .1)
-  -- and so after every line of a whole log, up to the first that is refused: its verdict byte, and at the end the record and the pair bytes
+      → counts? t y ≡ true → (a : Tallied) (w′ : List ℕ) → ChecksTallied file r y w line a w′ → TalliedMeans file x log t r y w line a w′
+  pub zeros : (file : List ℕ) (x : Rule) → tallyAfter file x [] noTrace ≡ record { lines = 0; begun = 0; finished = 0; running = 0; failing = 0 }
+  pub counted : (file : List ℕ) (x : Rule) (log : List ℕ) (t : Trace) → Accepted log t → counts? t (tallyAfter file x log t) ≡ true
+  -- and after every line of a whole log, up to the first that is refused: its verdict byte, and at the end the record and the pair bytes
   pub log : (file : List ℕ) (x : Rule) → ruleOf file ≡ RuleRead.Rule x → (log w out : List ℕ) → 16384 ≤ length w → 256 ≤ length out
-      → LogMeans file x log w out (logOf file log w out .0) (logOf file log w out .1) (logOf file log w out .2)
+      → (a : LogChecked) (w′ out′ : List ℕ) → ChecksLog file log w out a w′ out′ → LogMeans file x log w out a w′ out′
   -- an accepted log is read to its end
   pub read : (file : List ℕ) (x : Rule) → ruleOf file ≡ RuleRead.Rule x → (log : List ℕ) (t : Trace) → Accepted log t → (w out : List ℕ) → 16384 ≤ length w → 256 ≤ length out
-      → logOf file log w out .0 ≡ ended t Ending.Read
+      → (a : LogChecked) (w′ out′ : List ℕ) → ChecksLog file log w out a w′ out′ → a ≡ ended t Ending.Read
 
 -- ── demand 3 ──
--- "A relation is in the composition reported for two sets exactly when some accepted log of any length shows it with three different
--- finished runs; and then one with three runs and no others does": all pairs of sets and all relations, undivided
+-- "Take any of the 64 × 64 pairs of sets of relations, the empty set included, and any relation. That relation is in the composition
+-- that we report for the pair exactly when some accepted log, of any length, has three different finished runs where a member of the
+-- first set relates the first run to the second, a member of the second set relates the second to the third, and the relation taken
+-- relates the first to the third. Wherever a log shows this, an accepted log with three runs and no others shows it too."
+pub record Composes (a b : ℕ) (v : Composed) : Type 0 where
+  pub composition : ℕ
+  pub reported : v ≡ Composed.Set composition
+  pub exactly : (r : Relation) → Member r composition ↔ ((log : List ℕ) × Shown log a b r)
+  pub by-three : (r : Relation) (log : List ℕ) → Shown log a b r → ShownByThree a b r
+
+-- of every answer of the composing call
 abbrev pub Demand3 : Type 0
-Demand3 = Compose.Demand3
+Demand3 = (a b : ℕ) → a < 64 → b < 64 → (v : Composed) → Composition a b v → Composes a b v
+
+pub record Demands : Type 0 where
+  pub first : Demand1
+  pub second : Demand2
+  pub third : Demand3

@@ -1,2 +1,3 @@
 pub mod WhereMet
 pub mod Demands
+pub mod Cases

@@ -12,6 +12,7 @@ pub mod TallyCall
 pub mod Repeated
 pub mod Prefixes
 pub mod LogMeans
+pub mod Verdicts
 pub mod LogCall
 pub mod Cut
 pub mod TallyLaws

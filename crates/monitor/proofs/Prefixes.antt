@@ -1,17 +1,15 @@
--- A log's verdicts are those of its prefixes: the verdict byte of line k + 1 is the verdict of what the first k + 1 lines leave.
+-- The verdict byte of line k + 1 is the verdict of what the first k + 1 lines leave.
 -- Each line stores its byte at the count of the lines before it, and no later line touches it.
 use Prim.Native.Nat.{ℕ, zero, suc, _+_, _<_}
-use mathlib.Core.Path.{_≡_, refl, ap, sym, _∙_, subst}
-use mathlib.Core.List.{List, [], _∷_, _++_, append-assoc}
+use mathlib.Core.Path.{_≡_, ap, sym, _∙_}
+use mathlib.Core.List.{List, [], _∷_}
 use native.Mathlib.Omega.{arith}
 use lib.ListN.{length, getD, set, take, length-set}
 use lib.Seq.{getD-set-same, getD-set-other}
-use Rattle.lists.proofs.Lists.{append-nil}
 use Rattle.lines.specs.Line.{eventOf}
-use Rattle.lines.specs.Log.{linesOf}
-use Rattle.trace.specs.Trace.{Trace, Answer, next, refused, noTrace, apply, step, steps, read, Accepted}
+use Rattle.trace.specs.Trace.{Trace, Answer, next, refused, apply, steps}
 use Rattle.trace.proofs.Taken.{not-taken, refused-stays, step-lines}
-use Rattle.trace.proofs.Grown.{step-is, taken-grows, no-bytes, flat}
+use Rattle.trace.proofs.Grown.{step-is}
 use Rattle.rules.specs.declared.Rule.{Rule}
 use Rattle.rules.specs.Rules.{formulaOf}
 use Rattle.logic.specs.Verdict.{verdictByte, verdictOf}
@@ -65,40 +63,3 @@ module _ (file : List ℕ) (x : Rule) (w : List ℕ) where
       (λ c p.
       let q : steps (refused c) (take (suc k) ls) ≡ next u = ap (λ (a : Answer). steps a (take (suc k) ls)) (sym (step-is t l ∙ p)) ∙ e in
       not-taken c u (sym (refused-stays c (take (suc k) ls)) ∙ q))
-
--- ── prefixes ──
--- the first k lines of lines that are taken are taken
-pub prefix-taken : (k : ℕ) (ls : List (List ℕ)) (log : List ℕ) (s : Trace) → Accepted log s → (t : Trace) → steps (next s) ls ≡ next t
-    → (u : Trace) × (steps (next s) (take k ls) ≡ next u) × Accepted (log ++ flat (take k ls)) u
-prefix-taken zero ls log s a t e = (s, refl, subst (λ (l : List ℕ). Accepted l s) (sym (append-nil log)) a)
-prefix-taken (suc k) [] log s a t e = (s, refl, subst (λ (l : List ℕ). Accepted l s) (sym (append-nil log)) a)
-prefix-taken (suc k) (l ∷ ls) log s a t e =
-    by-answer s l
-    (λ v p.
-    let q : step (next s) l ≡ next v = step-is s l ∙ p in
-    let h = prefix-taken k ls (log ++ l) v (taken-grows log s a l v p) t (ap (λ (b : Answer). steps b ls) (sym q) ∙ e) in
-    (h .0, ap (λ (b : Answer). steps b (take k ls)) q ∙ h .1, subst (λ (m : List ℕ). Accepted m (h .0)) (append-assoc log l (flat (take k ls))) (h .2)))
-    (λ c p. not-taken c t (sym (refused-stays c ls) ∙ (ap (λ (b : Answer). steps b ls) (sym (step-is s l ∙ p)) ∙ e)))
-
--- the log of the first k lines
-abbrev pub prefix : ℕ → List ℕ → List ℕ
-prefix k log = flat (take k (linesOf log))
-
-pub record VerdictOfPrefix (file : List ℕ) (x : Rule) (log w out : List ℕ) (k : ℕ) : Type 0 where
-  pub trace : Trace
-  pub accepted : Accepted (prefix (suc k) log) trace
-  pub byte : getD (linesFrom file x noTrace (linesOf log) w out .2) k 0 ≡ verdictByte (verdictOf trace (formulaOf file x))
-
--- THE LAW: the verdict byte at k of an accepted log is the verdict of its first k + 1 lines.
-pub verdicts-of-prefixes : (file : List ℕ) (x : Rule) (log w out : List ℕ) (t : Trace) → Accepted log t → (k : ℕ) → k < length (linesOf log) → k < length out
-    → VerdictOfPrefix file x log w out k
-unfolding read
-verdicts-of-prefixes file x log w out t a k h room =
-    let g = prefix-taken (suc k) (linesOf log) [] noTrace no-bytes t (a .leaves) in
-    let z : 0 + k ≡ k = omega arith in
-    record {
-      trace = g .0;
-      accepted = g .2;
-      byte = subst (λ (j : ℕ). getD (linesFrom file x noTrace (linesOf log) w out .2) j 0 ≡ verdictByte (verdictOf (g .0) (formulaOf file x))) z
-          (line-byte file x w k (linesOf log) noTrace out (g .0) h (g .1) (omega arith));
-    }

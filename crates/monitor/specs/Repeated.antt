@@ -20,10 +20,17 @@ Result = LogChecked × List ℕ × List ℕ
 abbrev pub endedAt : Record → Ending → List ℕ → List ℕ → Result
 endedAt r e w out = (record { state = r; ending = e }, w, out)
 
--- what the calls on the lines give, one after another, whatever answers c and v they have by their contract
+-- an answer that the call can give by its contract
+pub record Answered (file : List ℕ) (r : Record) (w line : List ℕ) : Type 0 where
+  pub checked : Checked
+  pub work : List ℕ
+  pub checks : ChecksLine file r w line checked work
+
+-- what the calls on the lines give, one after another: each has an answer, and whatever answers c and v they have by their contract
 unfoldable pub Repeats : List ℕ → Record → List ℕ → List (List ℕ) → List ℕ → Result → Type 0
 Repeats file r w [] out z = z ≡ endedAt r Read w out
 Repeats file r w (l ∷ ls) out z =
-    (c : Checked) (v : List ℕ) → ChecksLine file r w l c v
+    Answered file r w l
+    × ((c : Checked) (v : List ℕ) → ChecksLine file r w l c v
     → ((y : Verdict) → c .outcome ≡ judged y → Repeats file (c .state) v ls (set out (r .lines .0) (verdictByte y)) z)
-    × ((n : ℕ) → c .outcome ≡ Outcome.Refused n → z ≡ endedAt (c .state) (Refused n (r .lines .0 + 1)) v out)
+    × ((n : ℕ) → c .outcome ≡ Outcome.Refused n → z ≡ endedAt (c .state) (Refused n (r .lines .0 + 1)) v out))

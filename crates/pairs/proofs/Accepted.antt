@@ -1,15 +1,13 @@
 -- The pair bytes of an accepted log: each names the order in which the lines of its two runs stand in the log.
 use Prim.Native.Nat.{ℕ, _<_}
-use mathlib.Core.Path.{_≡_, ap, sym}
+use mathlib.Core.Path.{_≡_, sym}
 use mathlib.Core.List.{List}
 use native.Mathlib.Omega.{arith}
 use lib.ListN.{length}
 use borrow.Author.Tests.{lt-ltb}
-use Rattle.lists.specs.Lists.{bytes}
-use Rattle.trace.specs.Trace.{Trace, Answer, next, refused, runAt, read, Accepted}
+use Rattle.trace.specs.Trace.{Trace, runAt, Accepted}
 use Rattle.trace.proofs.Accepted.{Orderly, accepted-orderly}
-use Rattle.trace.proofs.Examples.{p1 as Trace-p1}
-use Rattle.pairs.specs.Pairs.{pairSet, pairByte}
+use Rattle.pairs.specs.Pairs.{pairByte}
 use Rattle.pairs.specs.Word.{InLog, nameOf, wordOf}
 use Rattle.pairs.proofs.Word.{pair-word}
 
@@ -35,18 +33,3 @@ pub pair-byte-names-the-order : (log : List ℕ) (t : Trace) → Accepted log t 
 unfolding pairByte
 pair-byte-names-the-order log t acc a b h k =
     simp (lt-ltb _ _ h, lt-ltb _ _ k) (pair-word (runAt t a) (runAt t b) (t .lines) (orderly-pair t (accepted-orderly log t acc) a b h k))
-
--- "Pair byte 1 (run 0 with run 1) is 0, 1, 4, 7 after the four lines" of P1
-abbrev pub pairByte1 : Answer → ℕ
-pairByte1 (next t) = pairByte (t .runs) 0 1
-pairByte1 (refused c) = 99
-
-pub record P1 : Type 0 where
-  pub one : pairByte1 (read (bytes "B 7 EVENING\n")) ≡ 0
-  pub two : pairByte1 (read (bytes "B 7 EVENING\nB 9 TEST\n")) ≡ 1
-  pub three : pairByte1 (read (bytes "B 7 EVENING\nB 9 TEST\nE 9\n")) ≡ 4
-  pub four : pairByte1 (read (bytes "B 7 EVENING\nB 9 TEST\nE 9\nE 7\n")) ≡ 7
-
-pub p1 : P1
-unfolding pairByte pairSet
-p1 = record { one = ap pairByte1 (Trace-p1 .one); two = ap pairByte1 (Trace-p1 .two); three = ap pairByte1 (Trace-p1 .three); four = ap pairByte1 (Trace-p1 .four) }

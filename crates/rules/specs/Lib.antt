@@ -5,3 +5,4 @@ pub mod Labels
 pub mod Table
 pub mod Checks
 pub mod Rules
+pub mod Cases

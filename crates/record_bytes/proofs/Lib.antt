@@ -1,0 +1,5 @@
+pub mod Joined
+pub mod Form
+pub mod Again
+pub mod Carried
+pub mod Calls

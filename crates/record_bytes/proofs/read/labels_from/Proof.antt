@@ -1,0 +1,60 @@
+use Prim.Native.Nat.{_-_, _≤_}
+use mathlib.Core.Path.{_≡_, refl}
+use native.Mathlib.Omega.{arith}
+use Rattle.record_bytes.specs.Form.{labelFrom, labelsFrom}
+use Rattle.record_bytes.proofs.Joined.{Filled, none-filled, filled-next, filled-all}
+use borrow.Author.Needs.{needs}
+use Rattle.record_bytes.proofs.read.labels_from.Statement.{statement}
+use Rattle.record_bytes.proofs.read.labels_from.Tie as tie
+
+abbrev Inv-loop : tie.InvT-loop
+Inv-loop bytes list₀ i₀ list i = (i ≤ 64) × Filled (labelFrom bytes) 64 list i
+
+abbrev μ-loop : tie.MeasureT-loop
+μ-loop bytes list₀ i₀ list i = 64 - i
+
+label-at-requires : tie.Need-label-at-requires Inv-loop μ-loop
+label-at-requires c κs = search needs
+
+loop-holds : tie.Need-loop-holds Inv-loop μ-loop
+loop-holds c = (search needs, (refl, none-filled _))
+
+label-at-requires-2 : tie.Need-label-at-requires-2 Inv-loop μ-loop
+label-at-requires-2 c κs = search needs
+
+mul-list : tie.Need-mul-list Inv-loop μ-loop
+mul-list c = search needs
+
+array-set-from-list : tie.Need-array-set-from-list Inv-loop μ-loop
+array-set-from-list c = search needs
+
+add-i : tie.Need-add-i Inv-loop μ-loop
+add-i c = search needs
+
+loop-less : tie.Need-loop-less Inv-loop μ-loop
+loop-less c = search needs
+
+loop-again : tie.Need-loop-again Inv-loop μ-loop
+loop-again c =
+    let l = c .before .before in
+    (search needs, filled-next _ 64 (l .loop .list) (l .loop .i) (c .label-at2 .result) (l .loop .inv .1) (search needs) (c .label-at2 .ensures))
+
+returns : tie.Need-returns Inv-loop μ-loop
+unfolding labelsFrom
+returns c = let l = c .before in filled-all _ 64 (l .loop .list) (l .loop .i) (l .loop .inv .1) (omega arith)
+
+pub labels-from-spec : {M : Type 1} → statement M
+labels-from-spec =
+    tie.close
+    (tie.spec
+    Inv-loop
+    μ-loop
+    label-at-requires
+    loop-holds
+    label-at-requires-2
+    mul-list
+    array-set-from-list
+    add-i
+    loop-less
+    loop-again
+    returns)

@@ -1,0 +1,84 @@
+-- The bytes of a record, and the record of bytes: two definitions that do not rest on each other.
+-- "The carried record has, for each run, id, begin line, end line (0 while open) and label number, also the labels, the 128
+-- places and the line count." The counts of runs and labels that it keeps are in its bytes too.
+use Prim.Native.Nat.{ℕ, _+_, _*_, _/_, _%_}
+use mathlib.Core.List.{List, [], _∷_, _++_}
+use lib.ListN.{getD}
+use Rattle.labels.specs.declared.Label.{Label}
+use Rattle.labels.specs.declared.LabelNo.{LabelNo}
+use Rattle.labels.specs.Label.{labelNo, absent}
+use Rattle.trace.specs.declared.Run.{Run}
+use Rattle.trace.specs.declared.Record.{Record}
+use Rattle.trace.specs.Trace.{line, noRun}
+use Rattle.record_bytes.specs.Joined.{joined, values}
+
+-- ── from a record to its bytes ──
+-- a number of 16 bits, low byte first
+unfoldable pub u16Bytes : ℕ → List ℕ
+u16Bytes n = n % 256 ∷ n / 256 ∷ []
+
+-- the line count in two bytes, the counts of runs and labels in one each
+unfoldable pub headBytes : ℕ → ℕ → ℕ → List ℕ
+headBytes lines runs labels = u16Bytes lines ++ (runs % 256 ∷ labels % 256 ∷ [])
+
+-- "for each run, id, begin line, end line (0 while open) and label number": 7 bytes
+unfoldable pub runBytes : Run → List ℕ
+runBytes r = u16Bytes (r .id) ++ (u16Bytes (r .begin .0) ++ (u16Bytes (r .end .0) ++ (r .label .0 ∷ [])))
+
+-- a label: its length and its 24 bytes
+unfoldable pub labelBytes : Label → List ℕ
+labelBytes x = x .length ∷ values 24 (λ k. getD (x .bytes) k 0)
+
+unfoldable pub runsBytes : List Run → List ℕ
+runsBytes rs = joined 128 (λ i. runBytes (getD rs i noRun))
+
+unfoldable pub labelsBytes : List Label → List ℕ
+labelsBytes ls = joined 64 (λ i. labelBytes (getD ls i absent))
+
+-- "the 128 places": a byte each
+unfoldable pub placesBytes : List LabelNo → List ℕ
+placesBytes ps = values 128 (λ i. getD ps i (labelNo 0) .0)
+
+unfoldable pub recordBytes : Record → List ℕ
+recordBytes r =
+    headBytes (r .lines .0) (r .runs .count) (r .labels .count)
+    ++ (runsBytes (r .runs .list) ++ (labelsBytes (r .labels .labels) ++ placesBytes (r .labels .places)))
+
+-- ── from bytes to the record ──
+abbrev pub byteAt : List ℕ → ℕ → ℕ
+byteAt s p = getD s p 0
+
+abbrev pub u16At : List ℕ → ℕ → ℕ
+u16At s p = byteAt s p + 256 * byteAt s (p + 1)
+
+-- run i of 7 bytes, from byte 4 on
+unfoldable pub runFrom : List ℕ → ℕ → Run
+runFrom s i =
+    record {
+      id = u16At s (4 + 7 * i);
+      begin = line (u16At s (4 + 7 * i + 2));
+      end = line (u16At s (4 + 7 * i + 4));
+      label = labelNo (byteAt s (4 + 7 * i + 6));
+    }
+
+-- label i of 25 bytes, from byte 900 on
+unfoldable pub labelFrom : List ℕ → ℕ → Label
+labelFrom s i = record { bytes = values 24 (λ k. byteAt s (900 + 25 * i + 1 + k)); length = byteAt s (900 + 25 * i) }
+
+unfoldable pub runsFrom : List ℕ → List Run
+runsFrom s = values 128 (runFrom s)
+
+unfoldable pub labelsFrom : List ℕ → List Label
+labelsFrom s = values 64 (labelFrom s)
+
+-- place i, from byte 2,500 on
+unfoldable pub placesFrom : List ℕ → List LabelNo
+placesFrom s = values 128 (λ i. labelNo (byteAt s (2500 + i)))
+
+unfoldable pub recordFrom : List ℕ → Record
+recordFrom s =
+    record {
+      runs = record { list = runsFrom s; count = byteAt s 2 };
+      labels = record { labels = labelsFrom s; places = placesFrom s; count = byteAt s 3 };
+      lines = line (u16At s 0);
+    }

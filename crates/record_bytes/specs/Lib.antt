@@ -1,0 +1,3 @@
+pub mod Joined
+pub mod Form
+pub mod Calls

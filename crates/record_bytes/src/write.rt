@@ -1,0 +1,120 @@
+// A record's fields, written as its bytes.
+ghost use mathlib.Core.Path.{_≡_};
+ghost use Prim.Native.Nat.{_+_, _*_, _<_, _≤_};
+ghost use lib.ListN.{length};
+ghost use Rattle.record_bytes.specs.Joined.{stored};
+ghost use Rattle.record_bytes.specs.Form.{u16Bytes, headBytes, runBytes, runsBytes, labelBytes, labelsBytes, placesBytes, recordBytes};
+use crate::LABEL_BYTES;
+use crate::LABEL_COUNT_AT;
+use crate::LABELS_AT;
+use crate::MAX_LABEL_LENGTH;
+use crate::MAX_LABELS;
+use crate::MAX_RUNS;
+use crate::PLACES;
+use crate::PLACES_AT;
+use crate::RUN_BYTES;
+use crate::RUN_COUNT_AT;
+use crate::RUNS_AT;
+use labels::Label;
+use labels::LabelNo;
+use trace::Record;
+use trace::Run;
+
+// A number of 16 bits at a place, low byte first.
+fn put_u16(out: &mut [u8], at: usize, n: u16)
+    requires { ⌜ at + 1 < length (now out) ⌝ }
+    ensures { λ _. ⌜ now (out .exit) ≡ stored (now (out .entry)) at (u16Bytes n) ⌝ }
+{
+    out[at] = (n % 256) as u8;
+    out[at + 1] = (n / 256) as u8;
+}
+
+// Run i.
+fn put_run(out: &mut [u8], i: usize, r: Run)
+    requires { ⌜ (2628 ≤ length (now out)) × (i < 128) ⌝ }
+    ensures { λ _. ⌜ now (out .exit) ≡ stored (now (out .entry)) (4 + 7 * i) (runBytes r) ⌝ }
+{
+    let at = RUNS_AT + RUN_BYTES * i;
+    put_u16(out, at, r.id);
+    put_u16(out, at + 2, r.begin.0);
+    put_u16(out, at + 4, r.end.0);
+    out[at + 6] = r.label.0;
+}
+
+// The 128 runs.
+fn put_runs(out: &mut [u8], list: [Run; 128])
+    requires { ⌜ 2628 ≤ length (now out) ⌝ }
+    ensures { λ _. ⌜ now (out .exit) ≡ stored (now (out .entry)) 4 (runsBytes list) ⌝ }
+{
+    let mut i: usize = 0;
+    while i < MAX_RUNS {
+        let r = list[i];
+        put_run(out, i, r);
+        i += 1;
+    }
+}
+
+// Label i, from 0.
+fn put_label(out: &mut [u8], i: usize, x: Label)
+    requires { ⌜ (2628 ≤ length (now out)) × (i < 64) ⌝ }
+    ensures { λ _. ⌜ now (out .exit) ≡ stored (now (out .entry)) (900 + 25 * i) (labelBytes x) ⌝ }
+{
+    let at = LABELS_AT + LABEL_BYTES * i;
+    out[at] = x.length;
+    let mut j: usize = 0;
+    while j < MAX_LABEL_LENGTH {
+        out[at + 1 + j] = x.bytes[j];
+        j += 1;
+    }
+}
+
+// The 64 labels.
+fn put_labels(out: &mut [u8], list: [Label; 64])
+    requires { ⌜ 2628 ≤ length (now out) ⌝ }
+    ensures { λ _. ⌜ now (out .exit) ≡ stored (now (out .entry)) 900 (labelsBytes list) ⌝ }
+{
+    let mut i: usize = 0;
+    while i < MAX_LABELS {
+        let x = list[i];
+        put_label(out, i, x);
+        i += 1;
+    }
+}
+
+// The 128 places.
+fn put_places(out: &mut [u8], list: [LabelNo; 128])
+    requires { ⌜ 2628 ≤ length (now out) ⌝ }
+    ensures { λ _. ⌜ now (out .exit) ≡ stored (now (out .entry)) 2500 (placesBytes list) ⌝ }
+{
+    let mut i: usize = 0;
+    while i < PLACES {
+        out[PLACES_AT + i] = list[i].0;
+        i += 1;
+    }
+}
+
+// The counts: of lines, of runs and of labels.
+fn put_head(out: &mut [u8], lines: u16, runs: usize, labels: usize)
+    requires { ⌜ 2628 ≤ length (now out) ⌝ }
+    ensures { λ _. ⌜ now (out .exit) ≡ stored (now (out .entry)) 0 (headBytes lines runs labels) ⌝ }
+{
+    put_u16(out, 0, lines);
+    out[RUN_COUNT_AT] = (runs % 256) as u8;
+    out[LABEL_COUNT_AT] = (labels % 256) as u8;
+}
+
+// The whole record.
+pub fn put_record(out: &mut [u8], r: Record)
+    requires { ⌜ 2628 ≤ length (now out) ⌝ }
+    ensures { λ _. ⌜ now (out .exit) ≡ stored (now (out .entry)) 0 (recordBytes r) ⌝ }
+{
+    let runs = r.runs;
+    let labels = r.labels;
+    put_head(out, r.lines.0, runs.count, labels.count);
+    let list = runs.list;
+    put_runs(out, list);
+    let names = labels.labels;
+    put_labels(out, names);
+    let places = labels.places;
+    put_places(out, places);
+}

@@ -1,6 +1,6 @@
 -- The bytes of a record give the record again: each field is read where it is written.
 use Prim.Native.Nat.{ℕ, suc, _+_, _*_, _/_, _%_, _<_}
-use mathlib.Core.Path.{_≡_, refl, ap, sym, _∙_}
+use mathlib.Core.Path.{_≡_, refl, ap, _∙_}
 use mathlib.Core.List.{List, _++_, append-assoc}
 use native.Mathlib.Omega.{arith}
 use lib.ListN.{length, getD}
@@ -12,7 +12,7 @@ use Rattle.trace.specs.declared.Run.{Run}
 use Rattle.trace.specs.declared.Record.{Record}
 use Rattle.trace.specs.Trace.{line, noRun}
 use Rattle.record_bytes.specs.Joined.{values}
-use Rattle.record_bytes.specs.Form.{u16Bytes, headBytes, runBytes, labelBytes, runsBytes, labelsBytes, placesBytes, recordBytes, byteAt, u16At, runFrom, labelFrom, runsFrom, labelsFrom, placesFrom, recordFrom}
+use Rattle.record_bytes.specs.Form.{runsAt, runSize, labelsAt, labelSize, placesAt, u16Bytes, headBytes, runBytes, labelBytes, runsBytes, labelsBytes, placesBytes, recordBytes, byteAt, u16At, runFrom, labelFrom, runsFrom, labelsFrom, placesFrom, recordFrom}
 use Rattle.record_bytes.proofs.Joined.{joined-at, values-at, value-at, values-are}
 use Rattle.record_bytes.proofs.Form.{head-long, run-long, label-long, runs-long, labels-long}
 
@@ -55,28 +55,28 @@ module _ (r : Record) (rest : List ℕ) where
   in-parts = simp append-assoc
 
   -- ── a byte of each part ──
-  behind-head : (n m : ℕ) → m ≡ 4 + n → byteAt parts m ≡ byteAt (runsBytes rs ++ (labelsBytes ls ++ (placesBytes ps ++ rest))) n
+  behind-head : (n m : ℕ) → m ≡ runsAt + n → byteAt parts m ≡ byteAt (runsBytes rs ++ (labelsBytes ls ++ (placesBytes ps ++ rest))) n
   behind-head n m e = behind head _ n m (omega (arith, head-long (r .lines .0) (r .runs .count) (r .labels .count)))
 
-  behind-runs : (n m : ℕ) → m ≡ 900 + n → byteAt parts m ≡ byteAt (labelsBytes ls ++ (placesBytes ps ++ rest)) n
+  behind-runs : (n m : ℕ) → m ≡ labelsAt + n → byteAt parts m ≡ byteAt (labelsBytes ls ++ (placesBytes ps ++ rest)) n
   behind-runs n m e = behind-head (896 + n) m (omega arith) ∙ behind (runsBytes rs) _ n (896 + n) (omega (arith, runs-long rs))
 
-  behind-labels : (n m : ℕ) → m ≡ 2500 + n → byteAt parts m ≡ byteAt (placesBytes ps ++ rest) n
+  behind-labels : (n m : ℕ) → m ≡ placesAt + n → byteAt parts m ≡ byteAt (placesBytes ps ++ rest) n
   behind-labels n m e = behind-runs (1600 + n) m (omega arith) ∙ behind (labelsBytes ls) _ n (1600 + n) (omega (arith, labels-long ls))
 
-  run-byte : (i k m : ℕ) → i < 128 → k < 7 → m ≡ 4 + 7 * i + k → byteAt parts m ≡ byteAt (runBytes (getD rs i noRun)) k
+  run-byte : (i k m : ℕ) → i < 128 → k < 7 → m ≡ runsAt + runSize * i + k → byteAt parts m ≡ byteAt (runBytes (getD rs i noRun)) k
   unfolding runsBytes
   run-byte i k m h b e =
       behind-head (7 * i + k) m (omega arith)
       ∙ joined-at 7 (λ j. runBytes (getD rs j noRun)) (λ j. run-long (getD rs j noRun)) 0 128 i k (7 * i + k) _ h b refl
 
-  label-byte : (i k m : ℕ) → i < 64 → k < 25 → m ≡ 900 + 25 * i + k → byteAt parts m ≡ byteAt (labelBytes (getD ls i absent)) k
+  label-byte : (i k m : ℕ) → i < 64 → k < 25 → m ≡ labelsAt + labelSize * i + k → byteAt parts m ≡ byteAt (labelBytes (getD ls i absent)) k
   unfolding labelsBytes
   label-byte i k m h b e =
       behind-runs (25 * i + k) m (omega arith)
       ∙ joined-at 25 (λ j. labelBytes (getD ls j absent)) (λ j. label-long (getD ls j absent)) 0 64 i k (25 * i + k) _ h b refl
 
-  place-byte : (i m : ℕ) → i < 128 → m ≡ 2500 + i → byteAt parts m ≡ getD ps i (labelNo 0) .0
+  place-byte : (i m : ℕ) → i < 128 → m ≡ placesAt + i → byteAt parts m ≡ getD ps i (labelNo 0) .0
   unfolding placesBytes
   place-byte i m h e = behind-labels i m e ∙ values-at (λ j. getD ps j (labelNo 0) .0) 0 128 i i rest h refl
 
@@ -85,13 +85,13 @@ module _ (r : Record) (rest : List ℕ) where
   unfolding runFrom runBytes u16Bytes
   run-again i h =
       let x : Run = getD rs i noRun in
-      let id : u16At parts (4 + 7 * i) ≡ x .id = two-bytes parts (4 + 7 * i) (x .id) (run-byte i 0 _ h (omega arith) (omega arith)) (run-byte i 1 _ h (omega arith) refl) in
-      let begin : u16At parts (4 + 7 * i + 2) ≡ x .begin .0 = two-bytes parts (4 + 7 * i + 2) (x .begin .0) (run-byte i 2 _ h (omega arith) refl) (run-byte i 3 _ h (omega arith) (omega arith)) in
-      let end : u16At parts (4 + 7 * i + 4) ≡ x .end .0 = two-bytes parts (4 + 7 * i + 4) (x .end .0) (run-byte i 4 _ h (omega arith) refl) (run-byte i 5 _ h (omega arith) (omega arith)) in
-      let label : byteAt parts (4 + 7 * i + 6) ≡ x .label .0 = run-byte i 6 _ h (omega arith) refl in
+      let id : u16At parts (runsAt + runSize * i) ≡ x .id = two-bytes parts (runsAt + runSize * i) (x .id) (run-byte i 0 _ h (omega arith) (omega arith)) (run-byte i 1 _ h (omega arith) refl) in
+      let begin : u16At parts (runsAt + runSize * i + 2) ≡ x .begin .0 = two-bytes parts (runsAt + runSize * i + 2) (x .begin .0) (run-byte i 2 _ h (omega arith) refl) (run-byte i 3 _ h (omega arith) (omega arith)) in
+      let end : u16At parts (runsAt + runSize * i + 4) ≡ x .end .0 = two-bytes parts (runsAt + runSize * i + 4) (x .end .0) (run-byte i 4 _ h (omega arith) refl) (run-byte i 5 _ h (omega arith) (omega arith)) in
+      let label : byteAt parts (runsAt + runSize * i + 6) ≡ x .label .0 = run-byte i 6 _ h (omega arith) refl in
       λ j. record { id = id j; begin = line (begin j); end = line (end j); label = labelNo (label j) }
 
-  text-again : (i : ℕ) → i < 64 → (k : ℕ) → k < 24 → byteAt parts (900 + 25 * i + 1 + k) ≡ getD (getD ls i absent .bytes) k 0
+  text-again : (i : ℕ) → i < 64 → (k : ℕ) → k < 24 → byteAt parts (labelsAt + labelSize * i + 1 + k) ≡ getD (getD ls i absent .bytes) k 0
   unfolding labelBytes
   text-again i h k b =
       label-byte i (suc k) _ h (omega arith) (omega arith) ∙ value-at (λ j. getD (getD ls i absent .bytes) j 0) 0 24 k b
@@ -100,8 +100,8 @@ module _ (r : Record) (rest : List ℕ) where
   unfolding labelFrom labelBytes
   label-again i h long =
       let x : Label = getD ls i absent in
-      let text : values 24 (λ k. byteAt parts (900 + 25 * i + 1 + k)) ≡ x .bytes = values-are _ 0 24 (x .bytes) long (text-again i h) in
-      let size : byteAt parts (900 + 25 * i) ≡ x .length = label-byte i 0 _ h (omega arith) (omega arith) in
+      let text : values 24 (λ k. byteAt parts (labelsAt + labelSize * i + 1 + k)) ≡ x .bytes = values-are _ 0 24 (x .bytes) long (text-again i h) in
+      let size : byteAt parts (labelsAt + labelSize * i) ≡ x .length = label-byte i 0 _ h (omega arith) (omega arith) in
       λ j. record { bytes = text j; length = size j }
 
   -- ── the whole ──
@@ -116,7 +116,7 @@ module _ (r : Record) (rest : List ℕ) where
 
     places-again : placesFrom parts ≡ ps
     unfolding placesFrom
-    places-again = values-are (λ i. labelNo (byteAt parts (2500 + i))) (labelNo 0) 128 ps (f .places) (λ i h. ap labelNo (place-byte i (2500 + i) h refl))
+    places-again = values-are (λ i. labelNo (byteAt parts (placesAt + i))) (labelNo 0) 128 ps (f .places) (λ i h. ap labelNo (place-byte i (placesAt + i) h refl))
 
     pub record-again : recordFrom (recordBytes r ++ rest) ≡ r
     unfolding recordFrom headBytes u16Bytes

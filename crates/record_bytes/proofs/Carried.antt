@@ -1,4 +1,5 @@
 -- A record that accepted lines leave is in the form: its arrays are full, its labels have 24 bytes, and its counts fit a byte.
+-- So it is the same after it was packed and unpacked: the law of the crate (`packed-and-unpacked`).
 use Prim.Native.Nat.{ℕ, _+_, _-_, _<_, _≤_}
 use mathlib.Core.Path.{_≡_, refl, ap, sym, _∙_, subst}
 use mathlib.Core.Bool.{true}
@@ -14,7 +15,7 @@ use Rattle.labels.specs.declared.Label.{Label}
 use Rattle.labels.specs.Label.{letter?, label?, labelOf, noLabel, absent}
 use Rattle.labels.specs.Table.{indexOf, withLabel}
 use Rattle.labels.proofs.Table.{places-long, with-none, with-few, with-new}
-use Rattle.lines.specs.Event.{Event, begins, ends}
+use Rattle.lines.specs.Event.{Event}
 use Rattle.lines.specs.Line.{eventOf}
 use Rattle.lines.proofs.Event.{Fine, event-fine}
 use Rattle.trace.specs.declared.Record.{Record}
@@ -23,9 +24,10 @@ use Rattle.trace.specs.Record.{recordOf, Valid, Bounded}
 use Rattle.trace.proofs.Taken.{event-taken}
 use Rattle.trace.proofs.Bounds.{accepted-bounded}
 use Rattle.trace.proofs.Induction.{accepted-keeps}
-use Rattle.record_bytes.proofs.Again.{InForm}
+use Rattle.record_bytes.specs.Form.{recordBytes, recordFrom}
+use Rattle.record_bytes.proofs.Again.{InForm, record-again}
 
-pub length-pad : {A : Type 0} (d : A) (n : ℕ) (xs : List A) → length xs ≤ n → length (pad d n xs) ≡ n
+length-pad : {A : Type 0} (d : A) (n : ℕ) (xs : List A) → length xs ≤ n → length (pad d n xs) ≡ n
 unfolding pad
 length-pad d n xs h = omega (arith, length-append xs (replicate (n - length xs) d), length-replicate (n - length xs) d)
 
@@ -82,7 +84,7 @@ pad-full ls f i h =
     rw is refl)
 
 -- ── the record ──
-pub accepted-in-form : (log : List ℕ) (t : Trace) → Accepted log t → InForm (recordOf t)
+accepted-in-form : (log : List ℕ) (t : Trace) → Accepted log t → InForm (recordOf t)
 unfolding recordOf
 accepted-in-form log t a =
     let b : Bounded t = accepted-bounded log t a in
@@ -97,3 +99,7 @@ accepted-in-form log t a =
 
 pub valid-in-form : (r : Record) → Valid r → InForm r
 valid-in-form r v = subst InForm (sym (v .encoded)) (accepted-in-form (v .log) (v .trace) (v .accepted))
+
+-- THE LAW: a record that accepted lines leave is what its bytes hold, whatever follows them.
+pub packed-and-unpacked : (r : Record) → Valid r → (rest : List ℕ) → recordFrom (recordBytes r ++ rest) ≡ r
+packed-and-unpacked r v rest = record-again r rest (valid-in-form r v)

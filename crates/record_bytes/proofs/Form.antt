@@ -11,7 +11,7 @@ use Rattle.trace.specs.declared.Run.{Run}
 use Rattle.trace.specs.declared.Record.{Record}
 use Rattle.trace.specs.Trace.{noRun}
 use Rattle.record_bytes.specs.Joined.{stored}
-use Rattle.record_bytes.specs.Form.{u16Bytes, headBytes, runBytes, labelBytes, runsBytes, labelsBytes, placesBytes, recordBytes}
+use Rattle.record_bytes.specs.Form.{runsAt, labelsAt, placesAt, recordSize, u16Bytes, headBytes, runBytes, labelBytes, runsBytes, labelsBytes, placesBytes, recordBytes}
 use Rattle.record_bytes.proofs.Joined.{length-joined, length-values, stored-after, stored-one, stored-first}
 
 pub u16-long : (n : ℕ) → length (u16Bytes n) ≡ 2
@@ -42,7 +42,7 @@ pub places-long : (ps : List LabelNo) → length (placesBytes ps) ≡ 128
 unfolding placesBytes
 places-long ps = length-values (λ i. getD ps i (labelNo 0) .0) 128
 
-pub record-long : (r : Record) → length (recordBytes r) ≡ 2628
+pub record-long : (r : Record) → length (recordBytes r) ≡ recordSize
 unfolding recordBytes
 record-long r = simp (length-append, head-long, runs-long, labels-long, places-long)
 
@@ -73,16 +73,16 @@ head-stored w a n x y e =
     (omega (arith, u16-long n))
 
 -- a record's four parts
-pub record-stored : (w a b c d : List ℕ) (r : Record) → a ≡ stored w 0 (headBytes (r .lines .0) (r .runs .count) (r .labels .count)) → b ≡ stored a 4 (runsBytes (r .runs .list))
-    → c ≡ stored b 900 (labelsBytes (r .labels .labels)) → d ≡ stored c 2500 (placesBytes (r .labels .places)) → d ≡ stored w 0 (recordBytes r)
+pub record-stored : (w a b c d : List ℕ) (r : Record) → a ≡ stored w 0 (headBytes (r .lines .0) (r .runs .count) (r .labels .count)) → b ≡ stored a runsAt (runsBytes (r .runs .list))
+    → c ≡ stored b labelsAt (labelsBytes (r .labels .labels)) → d ≡ stored c placesAt (placesBytes (r .labels .places)) → d ≡ stored w 0 (recordBytes r)
 unfolding recordBytes
 record-stored w a b c d r e f g h =
     let i : List ℕ = headBytes (r .lines .0) (r .runs .count) (r .labels .count) in
     let j : List ℕ = runsBytes (r .runs .list) in
     let k : List ℕ = labelsBytes (r .labels .labels) in
     let l : List ℕ = placesBytes (r .labels .places) in
-    stored-after w a d 0 4 i (j ++ (k ++ l)) e
-    (stored-after a b d 4 900 j (k ++ l) f
-    (stored-after b c d 900 2500 k l g h (omega (arith, labels-long (r .labels .labels))))
+    stored-after w a d 0 runsAt i (j ++ (k ++ l)) e
+    (stored-after a b d runsAt labelsAt j (k ++ l) f
+    (stored-after b c d labelsAt placesAt k l g h (omega (arith, labels-long (r .labels .labels))))
     (omega (arith, runs-long (r .runs .list))))
     (omega (arith, head-long (r .lines .0) (r .runs .count) (r .labels .count)))

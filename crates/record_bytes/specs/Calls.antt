@@ -11,7 +11,7 @@ use Rattle.trace.specs.Record.{recordOf, Valid}
 use Rattle.record_bytes.specs.declared.Outcome.{Outcome}
 use Rattle.record_bytes.specs.declared.Outcome.the-variants.{Done, Refused}
 use Rattle.record_bytes.specs.declared.Unpacked.{Unpacked}
-use Rattle.record_bytes.specs.Form.{recordBytes, recordFrom}
+use Rattle.record_bytes.specs.Form.{recordSize, recordBytes, recordFrom}
 
 -- the answer that holds a record
 abbrev pub whole : Record → Unpacked
@@ -19,11 +19,11 @@ whole r = record { state = r; outcome = Done }
 
 -- the record of the first 2,628 bytes; those past them have no part. The record of no lines comes with a refusal.
 unfoldable pub unpackOf : List ℕ → Unpacked
-unpackOf s = cond (ltb (length s) 2628) (record { state = recordOf noTrace; outcome = Refused 20 }) (whole (recordFrom s))
+unpackOf s = cond (ltb (length s) recordSize) (record { state = recordOf noTrace; outcome = Refused 20 }) (whole (recordFrom s))
 
 -- the answer and the buffer: "no call changes a byte past those it is stated to write"
 unfoldable pub packOf : Record → List ℕ → Outcome × List ℕ
-packOf r out = cond (ltb (length out) 2628) (Refused 20, out) (Done, recordBytes r ++ drop 2628 out)
+packOf r out = cond (ltb (length out) recordSize) (Refused 20, out) (Done, recordBytes r ++ drop recordSize out)
 
 -- The contract of `unpack`, for every input: its answer; and for bytes that start with those of a record that accepted lines
 -- leave, that record.

@@ -12,6 +12,26 @@ use Rattle.trace.specs.declared.Record.{Record}
 use Rattle.trace.specs.Trace.{line, noRun}
 use Rattle.record_bytes.specs.Joined.{joined, values}
 
+-- ── where the parts stand ──
+-- 7 bytes for each of 128 runs, 25 for each of 64 labels, one for each of 128 places
+abbrev pub runsAt : ℕ
+runsAt = 4
+
+abbrev pub runSize : ℕ
+runSize = 7
+
+abbrev pub labelsAt : ℕ
+labelsAt = 900
+
+abbrev pub labelSize : ℕ
+labelSize = 25
+
+abbrev pub placesAt : ℕ
+placesAt = 2500
+
+abbrev pub recordSize : ℕ
+recordSize = 2628
+
 -- ── from a record to its bytes ──
 -- a number of 16 bits, low byte first
 unfoldable pub u16Bytes : ℕ → List ℕ
@@ -51,19 +71,19 @@ byteAt s p = getD s p 0
 abbrev pub u16At : List ℕ → ℕ → ℕ
 u16At s p = byteAt s p + 256 * byteAt s (p + 1)
 
--- run i of 7 bytes, from byte 4 on
+-- run i
 unfoldable pub runFrom : List ℕ → ℕ → Run
 runFrom s i =
     record {
-      id = u16At s (4 + 7 * i);
-      begin = line (u16At s (4 + 7 * i + 2));
-      end = line (u16At s (4 + 7 * i + 4));
-      label = labelNo (byteAt s (4 + 7 * i + 6));
+      id = u16At s (runsAt + runSize * i);
+      begin = line (u16At s (runsAt + runSize * i + 2));
+      end = line (u16At s (runsAt + runSize * i + 4));
+      label = labelNo (byteAt s (runsAt + runSize * i + 6));
     }
 
--- label i of 25 bytes, from byte 900 on
+-- label i
 unfoldable pub labelFrom : List ℕ → ℕ → Label
-labelFrom s i = record { bytes = values 24 (λ k. byteAt s (900 + 25 * i + 1 + k)); length = byteAt s (900 + 25 * i) }
+labelFrom s i = record { bytes = values 24 (λ k. byteAt s (labelsAt + labelSize * i + 1 + k)); length = byteAt s (labelsAt + labelSize * i) }
 
 unfoldable pub runsFrom : List ℕ → List Run
 runsFrom s = values 128 (runFrom s)
@@ -71,9 +91,8 @@ runsFrom s = values 128 (runFrom s)
 unfoldable pub labelsFrom : List ℕ → List Label
 labelsFrom s = values 64 (labelFrom s)
 
--- place i, from byte 2,500 on
 unfoldable pub placesFrom : List ℕ → List LabelNo
-placesFrom s = values 128 (λ i. labelNo (byteAt s (2500 + i)))
+placesFrom s = values 128 (λ i. labelNo (byteAt s (placesAt + i)))
 
 unfoldable pub recordFrom : List ℕ → Record
 recordFrom s =

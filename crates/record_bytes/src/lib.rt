@@ -6,7 +6,6 @@
 // The form: bytes 0 and 1 hold the line count, low byte first, byte 2 the count of runs, byte 3 the count of labels. From byte 4
 // on there are 7 bytes for each of 128 runs: id, begin line and end line, each low byte first, and the label's number. From byte
 // 900 on there are 25 bytes for each of 64 labels: its length and its 24 bytes. From byte 2,500 on the 128 places.
-ghost use mathlib.Core.Path.{_≡_};
 ghost use Rattle.record_bytes.specs.Calls.{Unpacks, Packs};
 use trace::Record;
 

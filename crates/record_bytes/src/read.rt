@@ -2,7 +2,7 @@
 ghost use mathlib.Core.Path.{_≡_};
 ghost use Prim.Native.Nat.{_+_, _<_, _≤_};
 ghost use lib.ListN.{length};
-ghost use Rattle.record_bytes.specs.Form.{u16At, runFrom, runsFrom, labelFrom, labelsFrom, placesFrom, recordFrom};
+ghost use Rattle.record_bytes.specs.Form.{recordSize, u16At, runFrom, runsFrom, labelFrom, labelsFrom, placesFrom, recordFrom};
 use crate::LABEL_BYTES;
 use crate::LABEL_COUNT_AT;
 use crate::LABELS_AT;
@@ -32,7 +32,7 @@ fn u16_at(bytes: &[u8], at: usize) -> u16
 
 // Run i.
 fn run_at(bytes: &[u8], i: usize) -> Run
-    requires { ⌜ (2628 ≤ length (now bytes)) × (i < 128) ⌝ }
+    requires { ⌜ (recordSize ≤ length (now bytes)) × (i < 128) ⌝ }
     ensures { λ r. ⌜ r ≡ runFrom (now (bytes .entry)) i ⌝ }
 {
     let at = RUNS_AT + RUN_BYTES * i;
@@ -50,7 +50,7 @@ fn run_at(bytes: &[u8], i: usize) -> Run
 
 // The 128 runs.
 fn runs_from(bytes: &[u8]) -> [Run; 128]
-    requires { ⌜ 2628 ≤ length (now bytes) ⌝ }
+    requires { ⌜ recordSize ≤ length (now bytes) ⌝ }
     ensures { λ l. ⌜ l ≡ runsFrom (now (bytes .entry)) ⌝ }
 {
     let first = run_at(bytes, 0);
@@ -66,7 +66,7 @@ fn runs_from(bytes: &[u8]) -> [Run; 128]
 
 // Label i, from 0.
 fn label_at(bytes: &[u8], i: usize) -> Label
-    requires { ⌜ (2628 ≤ length (now bytes)) × (i < 64) ⌝ }
+    requires { ⌜ (recordSize ≤ length (now bytes)) × (i < 64) ⌝ }
     ensures { λ x. ⌜ x ≡ labelFrom (now (bytes .entry)) i ⌝ }
 {
     let at = LABELS_AT + LABEL_BYTES * i;
@@ -84,7 +84,7 @@ fn label_at(bytes: &[u8], i: usize) -> Label
 
 // The 64 labels.
 fn labels_from(bytes: &[u8]) -> [Label; 64]
-    requires { ⌜ 2628 ≤ length (now bytes) ⌝ }
+    requires { ⌜ recordSize ≤ length (now bytes) ⌝ }
     ensures { λ l. ⌜ l ≡ labelsFrom (now (bytes .entry)) ⌝ }
 {
     let first = label_at(bytes, 0);
@@ -100,7 +100,7 @@ fn labels_from(bytes: &[u8]) -> [Label; 64]
 
 // The 128 places.
 fn places_from(bytes: &[u8]) -> [LabelNo; 128]
-    requires { ⌜ 2628 ≤ length (now bytes) ⌝ }
+    requires { ⌜ recordSize ≤ length (now bytes) ⌝ }
     ensures { λ l. ⌜ l ≡ placesFrom (now (bytes .entry)) ⌝ }
 {
     let mut list = [LabelNo(0); 128];
@@ -114,7 +114,7 @@ fn places_from(bytes: &[u8]) -> [LabelNo; 128]
 
 // The record of these bytes.
 pub fn record_from(bytes: &[u8]) -> Record
-    requires { ⌜ 2628 ≤ length (now bytes) ⌝ }
+    requires { ⌜ recordSize ≤ length (now bytes) ⌝ }
     ensures { λ r. ⌜ r ≡ recordFrom (now (bytes .entry)) ⌝ }
 {
     let lines = u16_at(bytes, 0);

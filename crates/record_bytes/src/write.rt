@@ -3,7 +3,7 @@ ghost use mathlib.Core.Path.{_≡_};
 ghost use Prim.Native.Nat.{_+_, _*_, _<_, _≤_};
 ghost use lib.ListN.{length};
 ghost use Rattle.record_bytes.specs.Joined.{stored};
-ghost use Rattle.record_bytes.specs.Form.{u16Bytes, headBytes, runBytes, runsBytes, labelBytes, labelsBytes, placesBytes, recordBytes};
+ghost use Rattle.record_bytes.specs.Form.{runsAt, runSize, labelsAt, labelSize, placesAt, recordSize, u16Bytes, headBytes, runBytes, runsBytes, labelBytes, labelsBytes, placesBytes, recordBytes};
 use crate::LABEL_BYTES;
 use crate::LABEL_COUNT_AT;
 use crate::LABELS_AT;
@@ -31,8 +31,8 @@ fn put_u16(out: &mut [u8], at: usize, n: u16)
 
 // Run i.
 fn put_run(out: &mut [u8], i: usize, r: Run)
-    requires { ⌜ (2628 ≤ length (now out)) × (i < 128) ⌝ }
-    ensures { λ _. ⌜ now (out .exit) ≡ stored (now (out .entry)) (4 + 7 * i) (runBytes r) ⌝ }
+    requires { ⌜ (recordSize ≤ length (now out)) × (i < 128) ⌝ }
+    ensures { λ _. ⌜ now (out .exit) ≡ stored (now (out .entry)) (runsAt + runSize * i) (runBytes r) ⌝ }
 {
     let at = RUNS_AT + RUN_BYTES * i;
     put_u16(out, at, r.id);
@@ -43,8 +43,8 @@ fn put_run(out: &mut [u8], i: usize, r: Run)
 
 // The 128 runs.
 fn put_runs(out: &mut [u8], list: [Run; 128])
-    requires { ⌜ 2628 ≤ length (now out) ⌝ }
-    ensures { λ _. ⌜ now (out .exit) ≡ stored (now (out .entry)) 4 (runsBytes list) ⌝ }
+    requires { ⌜ recordSize ≤ length (now out) ⌝ }
+    ensures { λ _. ⌜ now (out .exit) ≡ stored (now (out .entry)) runsAt (runsBytes list) ⌝ }
 {
     let mut i: usize = 0;
     while i < MAX_RUNS {
@@ -56,8 +56,8 @@ fn put_runs(out: &mut [u8], list: [Run; 128])
 
 // Label i, from 0.
 fn put_label(out: &mut [u8], i: usize, x: Label)
-    requires { ⌜ (2628 ≤ length (now out)) × (i < 64) ⌝ }
-    ensures { λ _. ⌜ now (out .exit) ≡ stored (now (out .entry)) (900 + 25 * i) (labelBytes x) ⌝ }
+    requires { ⌜ (recordSize ≤ length (now out)) × (i < 64) ⌝ }
+    ensures { λ _. ⌜ now (out .exit) ≡ stored (now (out .entry)) (labelsAt + labelSize * i) (labelBytes x) ⌝ }
 {
     let at = LABELS_AT + LABEL_BYTES * i;
     out[at] = x.length;
@@ -70,8 +70,8 @@ fn put_label(out: &mut [u8], i: usize, x: Label)
 
 // The 64 labels.
 fn put_labels(out: &mut [u8], list: [Label; 64])
-    requires { ⌜ 2628 ≤ length (now out) ⌝ }
-    ensures { λ _. ⌜ now (out .exit) ≡ stored (now (out .entry)) 900 (labelsBytes list) ⌝ }
+    requires { ⌜ recordSize ≤ length (now out) ⌝ }
+    ensures { λ _. ⌜ now (out .exit) ≡ stored (now (out .entry)) labelsAt (labelsBytes list) ⌝ }
 {
     let mut i: usize = 0;
     while i < MAX_LABELS {
@@ -83,8 +83,8 @@ fn put_labels(out: &mut [u8], list: [Label; 64])
 
 // The 128 places.
 fn put_places(out: &mut [u8], list: [LabelNo; 128])
-    requires { ⌜ 2628 ≤ length (now out) ⌝ }
-    ensures { λ _. ⌜ now (out .exit) ≡ stored (now (out .entry)) 2500 (placesBytes list) ⌝ }
+    requires { ⌜ recordSize ≤ length (now out) ⌝ }
+    ensures { λ _. ⌜ now (out .exit) ≡ stored (now (out .entry)) placesAt (placesBytes list) ⌝ }
 {
     let mut i: usize = 0;
     while i < PLACES {
@@ -95,7 +95,7 @@ fn put_places(out: &mut [u8], list: [LabelNo; 128])
 
 // The counts: of lines, of runs and of labels.
 fn put_head(out: &mut [u8], lines: u16, runs: usize, labels: usize)
-    requires { ⌜ 2628 ≤ length (now out) ⌝ }
+    requires { ⌜ recordSize ≤ length (now out) ⌝ }
     ensures { λ _. ⌜ now (out .exit) ≡ stored (now (out .entry)) 0 (headBytes lines runs labels) ⌝ }
 {
     put_u16(out, 0, lines);
@@ -105,7 +105,7 @@ fn put_head(out: &mut [u8], lines: u16, runs: usize, labels: usize)
 
 // The whole record.
 pub fn put_record(out: &mut [u8], r: Record)
-    requires { ⌜ 2628 ≤ length (now out) ⌝ }
+    requires { ⌜ recordSize ≤ length (now out) ⌝ }
     ensures { λ _. ⌜ now (out .exit) ≡ stored (now (out .entry)) 0 (recordBytes r) ⌝ }
 {
     let runs = r.runs;

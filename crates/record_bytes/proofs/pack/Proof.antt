@@ -1,5 +1,6 @@
-use Rattle.record_bytes.proofs.Calls.{ways-out}
+-- A short buffer is left as it is; in any other the bytes stored from the front on are the record's, and the rest stays.
 use borrow.Author.Needs.{needs}
+use Rattle.record_bytes.proofs.Calls.{ways-out}
 use Rattle.record_bytes.proofs.pack.Statement.{statement}
 use Rattle.record_bytes.proofs.pack.Tie as tie
 

@@ -1,5 +1,6 @@
-use Rattle.record_bytes.proofs.Calls.{ways-out}
+-- Bytes that are too short are refused; others are read whole.
 use borrow.Author.Needs.{needs}
+use Rattle.record_bytes.proofs.Calls.{ways-out}
 use Rattle.record_bytes.proofs.unpack.Statement.{statement}
 use Rattle.record_bytes.proofs.unpack.Tie as tie
 

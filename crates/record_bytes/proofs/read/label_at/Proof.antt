@@ -1,15 +1,16 @@
+-- The loop's invariant: the first j bytes of the array are those of the form.
 use Prim.Native.Nat.{_+_, _*_, _-_, _≤_}
 use mathlib.Core.Path.{_≡_, refl}
 use native.Mathlib.Omega.{arith}
-use Rattle.record_bytes.specs.Joined.{values}
-use Rattle.record_bytes.specs.Form.{byteAt, labelFrom}
-use Rattle.record_bytes.proofs.Joined.{Filled, none-filled, filled-next, filled-all}
 use borrow.Author.Needs.{needs}
+use Rattle.record_bytes.specs.Joined.{values}
+use Rattle.record_bytes.specs.Form.{labelsAt, labelSize, byteAt, labelFrom}
+use Rattle.record_bytes.proofs.Joined.{Filled, none-filled, filled-next, filled-all}
 use Rattle.record_bytes.proofs.read.label_at.Statement.{statement}
 use Rattle.record_bytes.proofs.read.label_at.Tie as tie
 
 abbrev Inv-loop : tie.InvT-loop
-Inv-loop bytes i at text₀ j₀ text j = (j ≤ 24) × Filled (λ k. byteAt bytes (900 + 25 * i + 1 + k)) 24 text j
+Inv-loop bytes i at text₀ j₀ text j = (j ≤ 24) × Filled (λ k. byteAt bytes (labelsAt + labelSize * i + 1 + k)) 24 text j
 
 abbrev μ-loop : tie.MeasureT-loop
 μ-loop bytes i at text₀ j₀ text j = 24 - j
@@ -54,8 +55,8 @@ unfolding labelFrom
 returns c =
     let l = c .before .before in
     let a = l .before .args in
-    let e : l .loop .text ≡ values 24 (λ k. byteAt (a .bytes .now) (900 + 25 * a .i + 1 + k)) = filled-all _ 24 (l .loop .text) (l .loop .j) (l .loop .inv .1) (omega arith) in
-    λ i. record { bytes = e i; length = byteAt (a .bytes .now) (900 + 25 * a .i) }
+    let e : l .loop .text ≡ values 24 (λ k. byteAt (a .bytes .now) (labelsAt + labelSize * a .i + 1 + k)) = filled-all _ 24 (l .loop .text) (l .loop .j) (l .loop .inv .1) (omega arith) in
+    λ i. record { bytes = e i; length = byteAt (a .bytes .now) (labelsAt + labelSize * a .i) }
 
 pub label-at-spec : {M : Type 1} → statement M
 label-at-spec =

@@ -1,9 +1,10 @@
+-- The loop's invariant: the first i labels of the array are those of the form.
 use Prim.Native.Nat.{_-_, _≤_}
-use mathlib.Core.Path.{_≡_, refl}
+use mathlib.Core.Path.{refl}
 use native.Mathlib.Omega.{arith}
+use borrow.Author.Needs.{needs}
 use Rattle.record_bytes.specs.Form.{labelFrom, labelsFrom}
 use Rattle.record_bytes.proofs.Joined.{Filled, none-filled, filled-next, filled-all}
-use borrow.Author.Needs.{needs}
 use Rattle.record_bytes.proofs.read.labels_from.Statement.{statement}
 use Rattle.record_bytes.proofs.read.labels_from.Tie as tie
 

@@ -1,15 +1,16 @@
+-- The loop's invariant: the first i places of the array are those of the form.
 use Prim.Native.Nat.{_+_, _-_, _≤_}
-use mathlib.Core.Path.{_≡_, refl}
+use mathlib.Core.Path.{refl}
 use native.Mathlib.Omega.{arith}
-use Rattle.labels.specs.Label.{labelNo}
-use Rattle.record_bytes.specs.Form.{byteAt, placesFrom}
-use Rattle.record_bytes.proofs.Joined.{Filled, none-filled, filled-next, filled-all}
 use borrow.Author.Needs.{needs}
+use Rattle.labels.specs.Label.{labelNo}
+use Rattle.record_bytes.specs.Form.{placesAt, byteAt, placesFrom}
+use Rattle.record_bytes.proofs.Joined.{Filled, none-filled, filled-next, filled-all}
 use Rattle.record_bytes.proofs.read.places_from.Statement.{statement}
 use Rattle.record_bytes.proofs.read.places_from.Tie as tie
 
 abbrev Inv-loop : tie.InvT-loop
-Inv-loop bytes list₀ i₀ list i = (i ≤ 128) × Filled (λ k. labelNo (byteAt bytes (2500 + k))) 128 list i
+Inv-loop bytes list₀ i₀ list i = (i ≤ 128) × Filled (λ k. labelNo (byteAt bytes (placesAt + k))) 128 list i
 
 abbrev μ-loop : tie.MeasureT-loop
 μ-loop bytes list₀ i₀ list i = 128 - i

@@ -1,7 +1,8 @@
+-- Each field is what its own reader answers.
 use native.Mathlib.Omega.{arith}
+use borrow.Author.Needs.{needs}
 use Rattle.trace.specs.Trace.{line}
 use Rattle.record_bytes.specs.Form.{byteAt, recordFrom}
-use borrow.Author.Needs.{needs}
 use Rattle.record_bytes.proofs.read.record_from.Statement.{statement}
 use Rattle.record_bytes.proofs.read.record_from.Tie as tie
 

@@ -1,8 +1,9 @@
+-- Each field is what stands at its place.
 use Prim.Native.Nat.{_+_, _*_}
+use borrow.Author.Needs.{needs}
 use Rattle.labels.specs.Label.{labelNo}
 use Rattle.trace.specs.Trace.{line}
-use Rattle.record_bytes.specs.Form.{byteAt, runFrom}
-use borrow.Author.Needs.{needs}
+use Rattle.record_bytes.specs.Form.{runsAt, runSize, byteAt, runFrom}
 use Rattle.record_bytes.proofs.read.run_at.Statement.{statement}
 use Rattle.record_bytes.proofs.read.run_at.Tie as tie
 
@@ -40,7 +41,7 @@ returns c =
     let p = c .before .before .before .u16-at .ensures in
     let q = c .before .before .u16-at2 .ensures in
     let s = c .before .u16-at3 .ensures in
-    λ i. record { id = p i; begin = line (q i); end = line (s i); label = labelNo (byteAt (a .bytes .now) (4 + 7 * a .i + 6)) }
+    λ i. record { id = p i; begin = line (q i); end = line (s i); label = labelNo (byteAt (a .bytes .now) (runsAt + runSize * a .i + 6)) }
 
 pub run-at-spec : {M : Type 1} → statement M
 run-at-spec =

@@ -1,9 +1,10 @@
+-- The loop's invariant: the first i runs of the array are those of the form.
 use Prim.Native.Nat.{_-_, _≤_}
-use mathlib.Core.Path.{_≡_, refl}
+use mathlib.Core.Path.{refl}
 use native.Mathlib.Omega.{arith}
+use borrow.Author.Needs.{needs}
 use Rattle.record_bytes.specs.Form.{runFrom, runsFrom}
 use Rattle.record_bytes.proofs.Joined.{Filled, none-filled, filled-next, filled-all}
-use borrow.Author.Needs.{needs}
 use Rattle.record_bytes.proofs.read.runs_from.Statement.{statement}
 use Rattle.record_bytes.proofs.read.runs_from.Tie as tie
 

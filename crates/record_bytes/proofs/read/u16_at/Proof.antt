@@ -1,3 +1,4 @@
+-- Two bytes make a number below 65,536.
 use Prim.Native.Nat.{_+_}
 use native.Mathlib.Omega.{arith}
 use borrow.Author.Needs.{needs}

@@ -1,7 +1,8 @@
+-- The two counts are stored behind the line count.
+use borrow.Author.Needs.{needs}
 use lib.ListN.{length-set}
 use Rattle.record_bytes.proofs.Joined.{stored-long}
 use Rattle.record_bytes.proofs.Form.{head-stored}
-use borrow.Author.Needs.{needs}
 use Rattle.record_bytes.proofs.write.put_head.Statement.{statement}
 use Rattle.record_bytes.proofs.write.put_head.Tie as tie
 

@@ -1,17 +1,18 @@
+-- The loop's invariant: the buffer is what it was when the length was stored, with the first j bytes of the label stored behind it.
 use Prim.Native.Nat.{_+_, _*_, _-_, _≤_}
 use mathlib.Core.Path.{_≡_, refl, _∙_}
 use native.Mathlib.Omega.{arith}
+use borrow.Author.Needs.{needs}
 use lib.ListN.{length, getD, length-set}
 use Rattle.record_bytes.specs.Joined.{values, stored}
-use Rattle.record_bytes.specs.Form.{labelBytes}
+use Rattle.record_bytes.specs.Form.{labelsAt, labelSize, labelBytes}
 use Rattle.record_bytes.proofs.Joined.{joined-none, value-next, stored-long, stored-first}
-use borrow.Author.Needs.{needs}
 use Rattle.record_bytes.proofs.write.put_label.Statement.{statement}
 use Rattle.record_bytes.proofs.write.put_label.Tie as tie
 
 abbrev Inv-loop : tie.InvT-loop
 Inv-loop out₀ i x at j₀ out j =
-    (j ≤ 24) × (length out ≡ length out₀) × (out ≡ stored out₀ (900 + 25 * i + 1) (values j (λ k. getD (x .bytes) k 0)))
+    (j ≤ 24) × (length out ≡ length out₀) × (out ≡ stored out₀ (labelsAt + labelSize * i + 1) (values j (λ k. getD (x .bytes) k 0)))
 
 abbrev μ-loop : tie.MeasureT-loop
 μ-loop out₀ i x at j₀ out j = 24 - j

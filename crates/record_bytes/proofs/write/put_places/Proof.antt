@@ -1,18 +1,19 @@
+-- The loop's invariant: the buffer is what it was, with the first i places stored from the first place on.
 use Prim.Native.Nat.{_-_, _≤_}
 use mathlib.Core.Path.{_≡_, refl}
 use native.Mathlib.Omega.{arith}
+use borrow.Author.Needs.{needs}
 use lib.ListN.{length, getD, length-set}
 use Rattle.labels.specs.Label.{labelNo}
 use Rattle.record_bytes.specs.Joined.{values, stored}
-use Rattle.record_bytes.specs.Form.{placesBytes}
+use Rattle.record_bytes.specs.Form.{placesAt, placesBytes}
 use Rattle.record_bytes.proofs.Joined.{joined-none, value-next}
-use borrow.Author.Needs.{needs}
 use Rattle.record_bytes.proofs.write.put_places.Statement.{statement}
 use Rattle.record_bytes.proofs.write.put_places.Tie as tie
 
 abbrev Inv-loop : tie.InvT-loop
 Inv-loop out₀ list i₀ out i =
-    (i ≤ 128) × (length out ≡ length out₀) × (out ≡ stored out₀ 2500 (values i (λ k. getD list k (labelNo 0) .0)))
+    (i ≤ 128) × (length out ≡ length out₀) × (out ≡ stored out₀ placesAt (values i (λ k. getD list k (labelNo 0) .0)))
 
 abbrev μ-loop : tie.MeasureT-loop
 μ-loop out₀ list i₀ out i = 128 - i

@@ -1,6 +1,7 @@
+-- Each part is stored where the one before it ends, so the four together are the bytes of the record.
+use borrow.Author.Needs.{needs}
 use Rattle.record_bytes.proofs.Joined.{stored-long}
 use Rattle.record_bytes.proofs.Form.{record-stored}
-use borrow.Author.Needs.{needs}
 use Rattle.record_bytes.proofs.write.put_record.Statement.{statement}
 use Rattle.record_bytes.proofs.write.put_record.Tie as tie
 

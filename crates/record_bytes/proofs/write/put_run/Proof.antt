@@ -1,6 +1,7 @@
+-- Each field is stored where the one before it ends, so the four together are the bytes of the run.
+use borrow.Author.Needs.{needs}
 use Rattle.record_bytes.proofs.Joined.{stored-long}
 use Rattle.record_bytes.proofs.Form.{run-stored}
-use borrow.Author.Needs.{needs}
 use Rattle.record_bytes.proofs.write.put_run.Statement.{statement}
 use Rattle.record_bytes.proofs.write.put_run.Tie as tie
 

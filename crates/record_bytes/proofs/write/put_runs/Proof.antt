@@ -1,19 +1,20 @@
+-- The loop's invariant: the buffer is what it was, with the bytes of the first i runs stored from the first run's place on.
 use Prim.Native.Nat.{_-_, _≤_}
 use mathlib.Core.Path.{_≡_, refl, _∙_}
 use native.Mathlib.Omega.{arith}
+use borrow.Author.Needs.{needs}
 use lib.ListN.{length, getD}
 use Rattle.trace.specs.Trace.{noRun}
 use Rattle.record_bytes.specs.Joined.{joined, stored}
-use Rattle.record_bytes.specs.Form.{runBytes, runsBytes}
+use Rattle.record_bytes.specs.Form.{runsAt, runBytes, runsBytes}
 use Rattle.record_bytes.proofs.Joined.{joined-none, joined-next, stored-long}
 use Rattle.record_bytes.proofs.Form.{run-long}
-use borrow.Author.Needs.{needs}
 use Rattle.record_bytes.proofs.write.put_runs.Statement.{statement}
 use Rattle.record_bytes.proofs.write.put_runs.Tie as tie
 
 abbrev Inv-loop : tie.InvT-loop
 Inv-loop out₀ list i₀ out i =
-    (i ≤ 128) × (length out ≡ length out₀) × (out ≡ stored out₀ 4 (joined i (λ k. runBytes (getD list k noRun))))
+    (i ≤ 128) × (length out ≡ length out₀) × (out ≡ stored out₀ runsAt (joined i (λ k. runBytes (getD list k noRun))))
 
 abbrev μ-loop : tie.MeasureT-loop
 μ-loop out₀ list i₀ out i = 128 - i

@@ -1,7 +1,8 @@
+-- Two stores, one after the other.
 use native.Mathlib.Numerals.{add-one}
+use borrow.Author.Needs.{needs}
 use Rattle.record_bytes.specs.Form.{u16Bytes}
 use Rattle.record_bytes.specs.Joined.{stored}
-use borrow.Author.Needs.{needs}
 use Rattle.record_bytes.proofs.write.put_u16.Statement.{statement}
 use Rattle.record_bytes.proofs.write.put_u16.Tie as tie
 

@@ -15,63 +15,59 @@ pub fn prepared(work: &mut [u8], bytes: &mut [u8]) {
     show::outcome(o);
 }
 
-// Takes the next line with the byte b at a place, and puts back the byte that was there.
-fn changed(work: &mut [u8], bytes: &mut [u8], at: usize, b: u8) {
-    if at < bytes.len() {
-        let old = bytes[at];
-        bytes[at] = b;
+// Takes the next line with the byte b at a place.
+fn changed(area: [u8; 16384], bytes: [u8; 2640], at: usize, b: u8) {
+    if at < 2640 {
+        let mut work = area;
+        let mut other = bytes;
+        other[at] = b;
         text::write_next(at as u64);
-        show::next(bytes, work, b"E 1000\n");
-        bytes[at] = old;
+        show::next(&other, &mut work, b"E 1000\n");
     }
 }
 
 // The counts are 3, 2 and 2.
-fn counts(work: &mut [u8], bytes: &mut [u8]) {
-    changed(work, bytes, 0, 4);
-    changed(work, bytes, 1, 1);
-    changed(work, bytes, 2, 1);
-    changed(work, bytes, 3, 3);
+fn counts(area: [u8; 16384], bytes: [u8; 2640]) {
+    changed(area, bytes, 0, 4);
+    changed(area, bytes, 1, 1);
+    changed(area, bytes, 2, 1);
+    changed(area, bytes, 3, 3);
 }
 
-// Run 0 is 1000 1 0 1. Another id is left by other lines, but then run 1000 has never begun.
-fn first_run(work: &mut [u8], bytes: &mut [u8]) {
-    changed(work, bytes, 4, 233);
-    changed(work, bytes, 6, 2);
-    changed(work, bytes, 7, 1);
-    changed(work, bytes, 8, 3);
-    changed(work, bytes, 10, 2);
-}
-
-// Run 1 is 65535 2 3 2, and all after it are 0.
-fn other_runs(work: &mut [u8], bytes: &mut [u8]) {
-    changed(work, bytes, 15, 4);
-    changed(work, bytes, 17, 0);
-    changed(work, bytes, 18, 5);
-    changed(work, bytes, 899, 1);
+// Run 0 is 1000 1 0 1, run 1 is 65535 2 3 2, and all after it are 0. Another id is left by other lines, but then run 1000 has never
+// begun.
+fn runs(area: [u8; 16384], bytes: [u8; 2640]) {
+    changed(area, bytes, 4, 233);
+    changed(area, bytes, 6, 2);
+    changed(area, bytes, 7, 1);
+    changed(area, bytes, 8, 3);
+    changed(area, bytes, 10, 2);
+    changed(area, bytes, 15, 4);
+    changed(area, bytes, 17, 0);
+    changed(area, bytes, 18, 5);
+    changed(area, bytes, 899, 1);
 }
 
 // EVENING is 7 bytes long, TEST ends at byte 929.
-fn labels(work: &mut [u8], bytes: &mut [u8]) {
-    changed(work, bytes, 900, 6);
-    changed(work, bytes, 908, 1);
-    changed(work, bytes, 929, 116);
-    changed(work, bytes, 2499, 1);
+fn labels(area: [u8; 16384], bytes: [u8; 2640]) {
+    changed(area, bytes, 900, 6);
+    changed(area, bytes, 908, 1);
+    changed(area, bytes, 929, 116);
+    changed(area, bytes, 2499, 1);
 }
 
 // EVENING stands at place 15, TEST at place 101. A byte past the record has no part.
-fn places(work: &mut [u8], bytes: &mut [u8]) {
-    changed(work, bytes, 2515, 0);
-    changed(work, bytes, 2601, 1);
-    changed(work, bytes, 2627, 1);
-    changed(work, bytes, 2628, 1);
+fn places(area: [u8; 16384], bytes: [u8; 2640]) {
+    changed(area, bytes, 2515, 0);
+    changed(area, bytes, 2601, 1);
+    changed(area, bytes, 2627, 1);
+    changed(area, bytes, 2628, 1);
 }
 
-pub fn all(work: &mut [u8], bytes: &mut [u8]) {
+pub fn all(area: [u8; 16384], bytes: [u8; 2640]) {
     text::write(b"changed in one place\n");
-    counts(work, bytes);
-    first_run(work, bytes);
-    other_runs(work, bytes);
-    labels(work, bytes);
-    places(work, bytes);
+    counts(area, bytes);
+    runs(area, bytes);
+    labels(area, bytes);
+    places(area, bytes);
 }

@@ -64,7 +64,7 @@ fn main() {
     let mut area = [7u8; 16384];
     let mut bytes = [9u8; 2640];
     three_lines(&mut area, &mut bytes);
-    damage::all(&mut area, &mut bytes);
+    damage::all(area, bytes);
     short(&mut area);
     no_lines(&mut area);
     full::all(&mut area, &mut bytes);

@@ -44,7 +44,7 @@ fn finished_count(t: RunTable) -> u32
 }
 
 // The tally of a record, with the count of failing lines.
-fn tally_of(r: Record, failing: u32) -> Tally
+pub fn tally_of(r: Record, failing: u32) -> Tally
     requires { ⌜ r .runs .count ≤ 128 ⌝ }
     ensures { λ y. ⌜ CountsRecord r failing y ⌝ }
 {

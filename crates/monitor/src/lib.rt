@@ -6,6 +6,7 @@ ghost use mathlib.Core.Path.{_≡_};
 ghost use Rattle.monitor.specs.Line.{ChecksLine};
 ghost use Rattle.monitor.specs.Tally.{ChecksTallied};
 ghost use Rattle.monitor.specs.Log.{notRead, ChecksLog};
+pub use counts::tally_of;
 use rules::RuleRead;
 use trace::Record;
 

@@ -1,0 +1,122 @@
+-- The report, by its ways out: a short buffer, and the text of what the whole-log call answers.
+use Prim.Native.Nat.{ℕ, _+_, _<_, _≤_}
+use mathlib.Core.Path.{_≡_, refl, ap, sym, _∙_, subst}
+use mathlib.Core.Bool.{Bool, true, false, cond, _||_}
+use mathlib.Core.List.{List, [], _∷_, _++_}
+use native.Mathlib.Omega.{arith}
+use lib.ListN.{length, take, drop}
+use borrow.Author.Tests.{lt-ltb, le-ltb}
+use Rattle.lists.proofs.Lists.{append-nil}
+use Rattle.lines.specs.Log.{linesOf}
+use Rattle.trace.specs.declared.Record.{Record}
+use Rattle.trace.specs.Trace.{Trace, noTrace}
+use Rattle.trace.specs.Record.{recordOf, Bounded}
+use Rattle.trace.proofs.Bounds.{sound-none, sound-bounded}
+use Rattle.rules.specs.declared.Rule.{Rule}
+use Rattle.rules.specs.declared.RuleRead.{RuleRead}
+use Rattle.rules.specs.declared.RuleRead.the-variants as RuleRead
+use Rattle.rules.specs.Rules.{ruleOf}
+use Rattle.monitor.specs.declared.Ending.{Ending}
+use Rattle.monitor.specs.declared.Ending.the-variants as Ending
+use Rattle.monitor.specs.declared.LogChecked.{LogChecked}
+use Rattle.monitor.specs.Log.{ended, notRead, linesFrom, logOf, ChecksLog}
+use Rattle.monitor.specs.Repeated.{Result as Checked}
+use Rattle.monitor.proofs.LineCall.{with-refused, with-taken}
+use Rattle.report.specs.declared.Reported.{Reported}
+use Rattle.report.specs.declared.Reported.the-variants.{Length, Refused}
+use Rattle.report.specs.Text.{refusedText, textFrom, reportText}
+use Rattle.report.specs.Writing.{put, linesTo, failsTo, recordText, LineLow, OfTrace, PrintsRecord}
+use Rattle.report.specs.Report.{Result, reportOf, Reports}
+use Rattle.report.proofs.Printed.{Printed, printed}
+
+-- what the whole-log call answers, and the text that it gives
+record Given (file log : List ℕ) (z : Checked) : Type 0 where
+  trace : Trace
+  bounded : Bounded trace
+  state : z .0 .state ≡ recordOf trace
+  line : LineLow (z .0 .ending)
+  text : recordText trace (z .0 .ending) (z .2) ≡ reportText file log
+
+module _ (file log w out : List ℕ) (long : 16384 ≤ length w) (room : 256 ≤ length out) where
+  given-unruled : (n : ℕ) → ruleOf file ≡ RuleRead.Refused n → Given file log (notRead n, w, out)
+  unfolding recordText linesTo reportText
+  given-unruled n e =
+      record {
+        trace = noTrace;
+        bounded = sound-bounded noTrace sound-none;
+        state = refl;
+        line = omega arith;
+        text = append-nil (refusedText 0 n) ∙ sym (with-refused {A = List ℕ} (ruleOf file) n _ _ e);
+      }
+
+  given-ruled : (x : Rule) → ruleOf file ≡ RuleRead.Rule x → Given file log (linesFrom file x noTrace (linesOf log) w out)
+  unfolding linesTo failsTo reportText
+  given-ruled x e =
+      let p : Printed file x w noTrace (linesOf log) (linesFrom file x noTrace (linesOf log) w out) = printed file x w (linesOf log) noTrace out sound-none room in
+      record {
+        trace = p .trace;
+        bounded = p .bounded;
+        state = p .state;
+        line = p .line;
+        text = sym (p .text) ∙ sym (with-taken {A = List ℕ} (ruleOf file) x _ _ e);
+      }
+
+  log-unruled : (n : ℕ) → ruleOf file ≡ RuleRead.Refused n → logOf file log w out ≡ (notRead n, w, out)
+  unfolding logOf
+  log-unruled n e = simp (le-ltb (length w) 16384 long, le-ltb (length out) 256 room) (with-refused (ruleOf file) n _ _ e)
+
+  log-ruled : (x : Rule) → ruleOf file ≡ RuleRead.Rule x → logOf file log w out ≡ linesFrom file x noTrace (linesOf log) w out
+  unfolding logOf
+  log-ruled x e = simp (le-ltb (length w) 16384 long, le-ltb (length out) 256 room) (with-taken (ruleOf file) x _ _ e)
+
+  given : Given file log (logOf file log w out)
+  given = by-rule (ruleOf file) refl
+    where
+      by-rule : (q : RuleRead) → ruleOf file ≡ q → Given file log (logOf file log w out)
+      by-rule (RuleRead.Rule x) e = subst (Given file log) (sym (log-ruled x e)) (given-ruled x e)
+      by-rule (RuleRead.Refused n) e = subst (Given file log) (sym (log-unruled n e)) (given-unruled n e)
+
+  module _ (a : LogChecked) (v o : List ℕ) (k : ChecksLog file log w out a v o) where
+    given-here : Given file log (a, v, o)
+    given-here = subst (Given file log) (sym (k .answer)) given
+
+    pub of-trace : OfTrace a
+    of-trace = let g = given-here in record { trace = g .trace; bounded = g .bounded; state = g .state; line = g .line }
+
+    module _ (text : List ℕ) (big : 2048 ≤ length text) (text′ : List ℕ) (n : ℕ) (c : PrintsRecord a o text text′ n) where
+      same-answer : _≡_ {A = Result} (Length n, v, o, text′) (reportOf file log w out text)
+      unfolding reportOf put
+      same-answer =
+          let g = given-here in
+          let p = c (g .trace) (g .state) in
+          let s : List ℕ = recordText (g .trace) (a .ending) o in
+          let z : 0 + length s ≡ length s = omega arith in
+          let m : n ≡ length (reportText file log) = p .writes .after ∙ (z ∙ ap length (g .text)) in
+          let t : text′ ≡ reportText file log ++ drop (length (reportText file log)) text =
+          p .writes .bytes ∙ (ap (λ (j : ℕ). s ++ drop j text) z ∙ ap (λ (r : List ℕ). r ++ drop (length r) text) (g .text)) in
+          simp (le-ltb (length w) 16384 long, le-ltb (length out) 256 room, le-ltb (length text) 2048 big)
+          (λ i. (Length (m i), k .answer i .1, k .answer i .2, t i))
+
+      pub report-written : Reports file log w out text (Length n) v o text′
+      report-written =
+          record {
+            answer = same-answer;
+            short = λ j e. let q : n ≡ j = cc in omega (arith, c (given-here .trace) (given-here .state) .few);
+          }
+
+-- ── a short buffer ──
+module _ (file log w out text : List ℕ) where
+  report-refused : _≡_ {A = Result} (Refused 20, w, out, text) (reportOf file log w out text) → Reports file log w out text (Refused 20) w out text
+  report-refused e = record { answer = e; short = λ n q. absurd (let z : _≡_ {A = ℕ} 0 1 = cc in omega arith) }
+
+  pub short-work : length w < 16384 → Reports file log w out text (Refused 20) w out text
+  unfolding reportOf
+  short-work h = report-refused (simp (lt-ltb (length w) 16384 h))
+
+  pub short-verdicts : 16384 ≤ length w → length out < 256 → Reports file log w out text (Refused 20) w out text
+  unfolding reportOf
+  short-verdicts l h = report-refused (simp (le-ltb (length w) 16384 l, lt-ltb (length out) 256 h))
+
+  pub short-text : 16384 ≤ length w → 256 ≤ length out → length text < 2048 → Reports file log w out text (Refused 20) w out text
+  unfolding reportOf
+  short-text l m h = report-refused (simp (le-ltb (length w) 16384 l, le-ltb (length out) 256 m, lt-ltb (length text) 2048 h))

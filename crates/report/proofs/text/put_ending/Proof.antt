@@ -1,0 +1,52 @@
+use Rattle.report.proofs.Pieces.{line-low, ending-read, ending-refused}
+use borrow.Author.Needs.{needs}
+use Rattle.report.proofs.text.put_ending.Statement.{statement}
+use Rattle.report.proofs.text.put_ending.Tie as tie
+use Rattle.report.proofs.text.put_ending.Reads as reads
+use Rattle.report.proofs.text.put_ending.Lts as lts
+use Rattle.report.proofs.text.put_refused.Reads as put-refused-reads
+
+-- src/text.rt:83:25
+enum-told : tie.Need-enum-told
+enum-told c = search needs
+
+-- src/text.rt:83:25
+returns : tie.Need-returns
+returns c = search ending-read
+
+-- src/text.rt:84:27
+enum-known-e : tie.Need-enum-known-e
+enum-known-e c = search needs
+
+-- src/text.rt:87:13
+cast-put-refused : tie.Need-cast-put-refused
+cast-put-refused c = search needs
+
+-- src/text.rt:88:13
+cast-put-refused-2 : tie.Need-cast-put-refused-2
+cast-put-refused-2 c = search needs
+
+-- src/text.rt:84:45
+put-refused-requires : tie.Need-put-refused-requires
+put-refused-requires c κs = (search needs, search line-low, search needs)
+
+-- src/text.rt:84:45
+same-length : tie.Need-same-length
+same-length c = search needs
+
+-- src/text.rt:84:45
+returns-2 : tie.Need-returns-2
+returns-2 c = search ending-refused
+
+pub put-ending-spec : {M : Type 1} → statement M
+put-ending-spec =
+    tie.close
+    (tie.spec
+    enum-told
+    returns
+    enum-known-e
+    cast-put-refused
+    cast-put-refused-2
+    put-refused-requires
+    same-length
+    returns-2)

@@ -26,13 +26,13 @@ failed-most Verdict.Holds = omega arith
 failed-most Verdict.Fails = omega arith
 
 module _ (file : List ℕ) (x : Rule) where
-  fails-taken : (t u : Trace) (l : List ℕ) (ls : List (List ℕ)) → apply t (eventOf l) ≡ next u
+  pub fails-taken : (t u : Trace) (l : List ℕ) (ls : List (List ℕ)) → apply t (eventOf l) ≡ next u
       → failingFrom file x t (l ∷ ls) ≡ failed (verdictOf u (formulaOf file x)) + failingFrom file x u ls
   unfolding failingFrom byAnswer
   fails-taken t u l ls p =
       ap (λ (a : Answer). byAnswer a (λ v. failed (verdictOf v (formulaOf file x)) + failingFrom file x v ls) (λ c. 0)) p
 
-  fails-none : (t : Trace) → failingFrom file x t [] ≡ 0
+  pub fails-none : (t : Trace) → failingFrom file x t [] ≡ 0
   unfolding failingFrom
   fails-none t = refl
 

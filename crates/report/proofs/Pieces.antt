@@ -7,35 +7,16 @@ use native.Mathlib.Omega.{arith}
 use native.Mathlib.Numerals.{add-one}
 use lib.Dec.{eqb}
 use lib.ListN.{length, getD}
-use borrow.Author.Tests.{lt-ltb, le-ltb, eq-eqb, ne-eqb}
-use Rattle.lines.specs.Render.{digits}
+use borrow.Author.Tests.{eq-eqb, ne-eqb}
 use Rattle.monitor.specs.declared.Ending.{Ending}
 use Rattle.monitor.specs.declared.Ending.the-variants.{Read, Refused}
 use Rattle.monitor.specs.declared.Tally.{Tally}
 use Rattle.report.specs.Text.{decimal, letterLine, refusedText, countText, tallyText}
 use Rattle.report.specs.Writing.{Writes, WritesFew, byteLetter, byteFails, endingText, unread?, LineLow, linesTo, failsTo}
+use Rattle.report.proofs.Decimal.{decimal-one, decimal-two, decimal-three}
 use Rattle.report.proofs.Writing.{wrote-nothing, then, writes-same}
 
 -- ── numbers ──
-decimal-one : (n : ℕ) → n < 10 → decimal n ≡ (48 + n % 10) ∷ []
-unfolding decimal digits
-decimal-one n h = simp (lt-ltb n 10 h) (ap (λ (d : ℕ). d ∷ []) (let e : 48 + n ≡ 48 + n % 10 = omega arith in e))
-
-decimal-two : (n : ℕ) → 10 ≤ n → n < 100 → decimal n ≡ (48 + n / 10 % 10) ∷ (48 + n % 10) ∷ []
-unfolding decimal digits
-decimal-two n h l =
-    let m : n / 10 < 10 = omega arith in
-    simp (le-ltb n 10 h, lt-ltb (n / 10) 10 m) (ap (λ (d : ℕ). d ∷ (48 + n % 10) ∷ []) (let e : 48 + n / 10 ≡ 48 + n / 10 % 10 = omega arith in e))
-
-decimal-three : (n : ℕ) → 100 ≤ n → n ≤ 999 → decimal n ≡ (48 + n / 100 % 10) ∷ (48 + n / 10 % 10) ∷ (48 + n % 10) ∷ []
-unfolding decimal digits
-decimal-three n h l =
-    let a : 10 ≤ n = omega arith in
-    let b : 10 ≤ n / 10 = omega arith in
-    let c : n / 10 / 10 < 10 = omega arith in
-    simp (le-ltb n 10 a, le-ltb (n / 10) 10 b, lt-ltb (n / 10 / 10) 10 c)
-    (ap (λ (d : ℕ). d ∷ (48 + n / 10 % 10) ∷ (48 + n % 10) ∷ []) (let e : 48 + n / 10 / 10 ≡ 48 + n / 100 % 10 = omega arith in e))
-
 module _ (n : ℕ) (text text₁ : List ℕ) (p q c : ℕ) where
   pub number-one : n < 10 → c ≡ 48 + n % 10 → Writes (c ∷ []) text p text₁ q → WritesFew 3 (decimal n) text p text₁ q
   number-one h e w =

@@ -5,6 +5,7 @@ use mathlib.Core.Bool.{Bool, true, false, cond, _||_}
 use mathlib.Core.List.{List, [], _∷_, _++_}
 use native.Mathlib.Omega.{arith}
 use lib.ListN.{length, take, drop}
+use lib.Seq.{take-at}
 use borrow.Author.Tests.{lt-ltb, le-ltb}
 use Rattle.lists.proofs.Lists.{append-nil}
 use Rattle.lines.specs.Log.{linesOf}
@@ -16,6 +17,7 @@ use Rattle.rules.specs.declared.Rule.{Rule}
 use Rattle.rules.specs.declared.RuleRead.{RuleRead}
 use Rattle.rules.specs.declared.RuleRead.the-variants as RuleRead
 use Rattle.rules.specs.Rules.{ruleOf}
+use Rattle.rules.proofs.Rules.{reads-rule}
 use Rattle.monitor.specs.declared.Ending.{Ending}
 use Rattle.monitor.specs.declared.Ending.the-variants as Ending
 use Rattle.monitor.specs.declared.LogChecked.{LogChecked}
@@ -26,8 +28,9 @@ use Rattle.report.specs.declared.Reported.{Reported}
 use Rattle.report.specs.declared.Reported.the-variants.{Length, Refused}
 use Rattle.report.specs.Text.{refusedText, textFrom, reportText}
 use Rattle.report.specs.Writing.{put, linesTo, failsTo, recordText, LineLow, OfTrace, PrintsRecord}
-use Rattle.report.specs.Report.{Result, reportOf, Reports}
+use Rattle.report.specs.Report.{Result, reportOf, TextMeans, Reports}
 use Rattle.report.proofs.Printed.{Printed, printed}
+use Rattle.report.proofs.Means.{text-means}
 
 -- what the whole-log call answers, and the text that it gives
 record Given (file log : List ℕ) (z : Checked) : Type 0 where
@@ -84,30 +87,64 @@ module _ (file log w out : List ℕ) (long : 16384 ≤ length w) (room : 256 ≤
     of-trace = let g = given-here in record { trace = g .trace; bounded = g .bounded; state = g .state; line = g .line }
 
     module _ (text : List ℕ) (big : 2048 ≤ length text) (text′ : List ℕ) (n : ℕ) (c : PrintsRecord a o text text′ n) where
-      same-answer : _≡_ {A = Result} (Length n, v, o, text′) (reportOf file log w out text)
-      unfolding reportOf put
-      same-answer =
+      abbrev printed-text : List ℕ
+      printed-text = reportText file log
+
+      record Wrote : Type 0 where
+        count : n ≡ length printed-text
+        bytes : text′ ≡ printed-text ++ drop (length printed-text) text
+        short : n ≤ 2048
+
+      wrote : Wrote
+      unfolding put
+      wrote =
           let g = given-here in
           let p = c (g .trace) (g .state) in
           let s : List ℕ = recordText (g .trace) (a .ending) o in
           let z : 0 + length s ≡ length s = omega arith in
-          let m : n ≡ length (reportText file log) = p .writes .after ∙ (z ∙ ap length (g .text)) in
-          let t : text′ ≡ reportText file log ++ drop (length (reportText file log)) text =
-          p .writes .bytes ∙ (ap (λ (j : ℕ). s ++ drop j text) z ∙ ap (λ (r : List ℕ). r ++ drop (length r) text) (g .text)) in
+          record {
+            count = p .writes .after ∙ (z ∙ ap length (g .text));
+            bytes = p .writes .bytes ∙ (ap (λ (j : ℕ). s ++ drop j text) z ∙ ap (λ (r : List ℕ). r ++ drop (length r) text) (g .text));
+            short = omega (arith, p .few);
+          }
+
+      same-answer : _≡_ {A = Result} (Length n, v, o, text′) (reportOf file log w out text)
+      unfolding reportOf
+      same-answer =
           simp (le-ltb (length w) 16384 long, le-ltb (length out) 256 room, le-ltb (length text) 2048 big)
-          (λ i. (Length (m i), k .answer i .1, k .answer i .2, t i))
+          (λ i. (Length (wrote .count i), k .answer i .1, k .answer i .2, wrote .bytes i))
+
+      -- the bytes of the report
+      front : (m : ℕ) → Length n ≡ Length m → printed-text ≡ take m text′
+      front m e =
+          let q : n ≡ m = cc in
+          sym (ap (take m) (wrote .bytes) ∙ take-at printed-text _ m (sym (wrote .count) ∙ q))
 
       pub report-written : Reports file log w out text (Length n) v o text′
+      unfolding reportText
       report-written =
           record {
             answer = same-answer;
-            short = λ j e. let q : n ≡ j = cc in omega (arith, c (given-here .trace) (given-here .state) .few);
+            short = λ m e. let q : n ≡ m = cc in omega (arith, wrote .short);
+            unruled = λ m d e r. sym (front m e) ∙ with-refused (ruleOf file) d _ _ r;
+            meaning = λ m x e r.
+                subst (TextMeans file x log) (sym (with-taken {A = List ℕ} (ruleOf file) x (λ c. refusedText 0 c) (λ x. textFrom file x noTrace 0 (linesOf log)) r) ∙ front m e)
+                (text-means file x (reads-rule file (RuleRead.Rule x) (sym r) .taken x refl) log);
           }
 
 -- ── a short buffer ──
+no-length : {C : Type 0} (n : ℕ) → Refused 20 ≡ Length n → C
+no-length n q = absurd (let z : _≡_ {A = ℕ} 0 1 = cc in omega arith)
+
 module _ (file log w out text : List ℕ) where
   report-refused : _≡_ {A = Result} (Refused 20, w, out, text) (reportOf file log w out text) → Reports file log w out text (Refused 20) w out text
-  report-refused e = record { answer = e; short = λ n q. absurd (let z : _≡_ {A = ℕ} 0 1 = cc in omega arith) }
+  report-refused e =
+      record {
+        answer = e;
+        short = λ n q. no-length n q;
+        unruled = λ n c q r. no-length n q;
+        meaning = λ n x q r. no-length n q;
+      }
 
   pub short-work : length w < 16384 → Reports file log w out text (Refused 20) w out text
   unfolding reportOf

@@ -1,16 +1,49 @@
 // Prints the report of rule files and logs, with its length and how many bytes after it are as before.
 //
 // A work area holds 7s before the call, a verdict buffer 9s, a text buffer dots. Where the call is refused, how many of each are left.
+use report::Reported;
+
 mod long;
 mod show;
 
-// A rule file and a log, with buffers that are longer than they need be.
-fn print(file: &[u8], log: &[u8]) {
+// The report with the first w, v and t bytes of three buffers.
+fn report_in(
+    file: &[u8],
+    log: &[u8],
+    work: &mut [u8],
+    w: usize,
+    verdicts: &mut [u8],
+    v: usize,
+    text: &mut [u8],
+    t: usize,
+) -> Reported {
+    if w <= work.len() {
+        if v <= verdicts.len() {
+            if t <= text.len() {
+                return report::report(
+                    file,
+                    log,
+                    &mut work[0..w],
+                    &mut verdicts[0..v],
+                    &mut text[0..t],
+                );
+            }
+        }
+    }
+    Reported::Refused(0)
+}
+
+// A rule file and a log, with buffers of w, v and t bytes.
+fn print_in(file: &[u8], log: &[u8], w: usize, v: usize, t: usize) {
     let mut work = [7u8; 16400];
     let mut verdicts = [9u8; 260];
     let mut text = [b'.'; 2100];
-    let a = report::report(file, log, &mut work, &mut verdicts, &mut text);
+    let a = report_in(file, log, &mut work, w, &mut verdicts, v, &mut text, t);
     show::reported(a, &work, &verdicts, &text);
+}
+
+fn print(file: &[u8], log: &[u8]) {
+    print_in(file, log, 16400, 260, 2100);
 }
 
 // "no EVENING includes a TEST"
@@ -67,48 +100,24 @@ fn rules() {
     );
 }
 
-// Buffers that are just long enough.
-fn just_long_enough() {
-    show::write(b"16384, 256 and 2048 bytes\n");
-    let mut work = [7u8; 16384];
-    let mut verdicts = [9u8; 256];
-    let mut text = [b'.'; 2048];
-    let a = report::report(b"", b"", &mut work, &mut verdicts, &mut text);
-    show::reported(a, &work, &verdicts, &text);
-}
-
-fn short_work() {
-    show::write(b"16383 bytes of work area\n");
-    let mut work = [7u8; 16383];
-    let mut verdicts = [9u8; 256];
-    let mut text = [b'.'; 2048];
-    let a = report::report(b"", b"", &mut work, &mut verdicts, &mut text);
-    show::reported(a, &work, &verdicts, &text);
-}
-
-fn short_verdicts() {
-    show::write(b"255 verdict bytes\n");
-    let mut work = [7u8; 16384];
-    let mut verdicts = [9u8; 255];
-    let mut text = [b'.'; 2048];
-    let a = report::report(b"", b"", &mut work, &mut verdicts, &mut text);
-    show::reported(a, &work, &verdicts, &text);
-}
-
-// The rule is P10's, and the line would be taken.
-fn short_text() {
-    show::write(b"2047 bytes of text\n");
-    let mut work = [7u8; 16384];
-    let mut verdicts = [9u8; 256];
-    let mut text = [b'.'; 2047];
-    let a = report::report(
+// P10's rule and its first line, with buffers that are just long enough, and with one that is a byte shorter.
+fn sized(w: usize, v: usize, t: usize) {
+    print_in(
         b"RUL\x01\x00\x00\x02\x08\x00\x00\x03\x00\x00",
         b"B 1\n",
-        &mut work,
-        &mut verdicts,
-        &mut text,
+        w,
+        v,
+        t,
     );
-    show::reported(a, &work, &verdicts, &text);
+}
+
+fn buffers() {
+    show::write(b"just long enough, and a byte shorter\n");
+    sized(16384, 256, 2048);
+    sized(16383, 256, 2048);
+    sized(16384, 255, 2048);
+    sized(16384, 256, 2047);
+    print_in(b"", b"", 16383, 255, 2047);
 }
 
 // "some A, some B: A overlaps B" over the longest log, with a line after it.
@@ -125,9 +134,6 @@ fn main() {
     paper();
     ends();
     rules();
-    just_long_enough();
-    short_work();
-    short_verdicts();
-    short_text();
+    buffers();
     longest();
 }

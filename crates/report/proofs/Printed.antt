@@ -1,15 +1,13 @@
 -- The printed text, line by line, and why a record with its verdict bytes gives it: the bytes that a whole-log call leaves are, from
 -- the count of the lines before on, those of the verdicts that the text shows.
-use Prim.Native.Nat.{ℕ, zero, suc, _+_, _<_, _≤_}
+use Prim.Native.Nat.{ℕ, suc, _+_, _<_, _≤_}
 use mathlib.Core.Path.{_≡_, refl, ap, sym, _∙_, subst}
-use mathlib.Core.Bool.{Bool, true, false, cond}
 use mathlib.Core.List.{List, [], _∷_, _++_, append-assoc}
 use native.Mathlib.Omega.{arith}
 use native.Mathlib.Numerals.{add-one}
 use lib.ListN.{length, getD, set, length-set}
 use borrow.Author.Tests.{ne-eqb}
 use Rattle.lines.specs.Line.{eventOf}
-use Rattle.trace.specs.declared.Record.{Record}
 use Rattle.trace.specs.Trace.{Trace, Answer, next, refused, apply}
 use Rattle.trace.specs.Record.{recordOf, Bounded}
 use Rattle.trace.proofs.Taken.{step-lines}
@@ -20,9 +18,7 @@ use Rattle.rules.specs.Rules.{formulaOf}
 use Rattle.logic.specs.declared.Verdict.{Verdict}
 use Rattle.logic.specs.declared.Verdict.the-variants.{Holds, Fails}
 use Rattle.logic.specs.Verdict.{verdictByte, verdictOf}
-use Rattle.monitor.specs.declared.Ending.{Ending}
-use Rattle.monitor.specs.declared.Ending.the-variants.{Read, Refused}
-use Rattle.monitor.specs.Log.{byAnswer, ended, linesFrom}
+use Rattle.monitor.specs.Log.{byAnswer, linesFrom}
 use Rattle.monitor.specs.Tally.{tallyOf, failed}
 use Rattle.monitor.specs.Repeated.{Result}
 use Rattle.monitor.proofs.Lines.{by-answer, from-none, from-taken, from-refused}

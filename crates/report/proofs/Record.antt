@@ -1,18 +1,18 @@
 -- The text of a record: the lines of its verdict bytes, how the reading ended, and the tally. Its counts are low enough to be
 -- printed, since the record is that of a trace that keeps its bounds.
 use Prim.Native.Nat.{ℕ, _+_, _-_, _≤_}
-use mathlib.Core.Path.{_≡_, refl, ap, sym, _∙_, subst}
-use mathlib.Core.Bool.{Bool, true, false, cond}
-use mathlib.Core.List.{List, [], _∷_, _++_}
+use mathlib.Core.Path.{_≡_, ap, sym, _∙_, subst}
+use mathlib.Core.Bool.{Bool, true, false}
+use mathlib.Core.List.{List, _++_}
 use native.Mathlib.Omega.{arith}
 use lib.ListN.{length}
 use Rattle.lists.proofs.Lists.{append-nil}
 use Rattle.trace.specs.declared.Record.{Record}
 use Rattle.trace.specs.Trace.{Trace}
-use Rattle.trace.specs.Record.{recordOf, Bounded}
+use Rattle.trace.specs.Record.{recordOf}
 use Rattle.monitor.specs.declared.LogChecked.{LogChecked}
 use Rattle.monitor.specs.declared.Tally.{Tally}
-use Rattle.monitor.specs.Tally.{tallyOf, finishedRuns, CountsRecord}
+use Rattle.monitor.specs.Tally.{tallyOf, CountsRecord}
 use Rattle.monitor.proofs.Tallies.{finished-most}
 use Rattle.report.specs.Text.{tallyText}
 use Rattle.report.specs.Writing.{Writes, WritesFew, endingText, unread?, linesTo, failsTo, recordText, Printable, OfTrace, PrintsRecord}

@@ -1,15 +1,13 @@
 -- The report, by its ways out: a short buffer, and the text of what the whole-log call answers.
 use Prim.Native.Nat.{ℕ, _+_, _<_, _≤_}
 use mathlib.Core.Path.{_≡_, refl, ap, sym, _∙_, subst}
-use mathlib.Core.Bool.{Bool, true, false, cond, _||_}
-use mathlib.Core.List.{List, [], _∷_, _++_}
+use mathlib.Core.List.{List, _++_}
 use native.Mathlib.Omega.{arith}
 use lib.ListN.{length, take, drop}
 use lib.Seq.{take-at}
 use borrow.Author.Tests.{lt-ltb, le-ltb}
 use Rattle.lists.proofs.Lists.{append-nil}
 use Rattle.lines.specs.Log.{linesOf}
-use Rattle.trace.specs.declared.Record.{Record}
 use Rattle.trace.specs.Trace.{Trace, noTrace}
 use Rattle.trace.specs.Record.{recordOf, Bounded}
 use Rattle.trace.proofs.Bounds.{sound-none, sound-bounded}
@@ -18,13 +16,10 @@ use Rattle.rules.specs.declared.RuleRead.{RuleRead}
 use Rattle.rules.specs.declared.RuleRead.the-variants as RuleRead
 use Rattle.rules.specs.Rules.{ruleOf}
 use Rattle.rules.proofs.Rules.{reads-rule}
-use Rattle.monitor.specs.declared.Ending.{Ending}
-use Rattle.monitor.specs.declared.Ending.the-variants as Ending
 use Rattle.monitor.specs.declared.LogChecked.{LogChecked}
-use Rattle.monitor.specs.Log.{ended, notRead, linesFrom, logOf, ChecksLog}
+use Rattle.monitor.specs.Log.{notRead, linesFrom, logOf, ChecksLog}
 use Rattle.monitor.specs.Repeated.{Result as Checked}
 use Rattle.monitor.proofs.LineCall.{with-refused, with-taken}
-use Rattle.report.specs.declared.Reported.{Reported}
 use Rattle.report.specs.declared.Reported.the-variants.{Length, Refused}
 use Rattle.report.specs.Text.{refusedText, textFrom, reportText}
 use Rattle.report.specs.Writing.{put, linesTo, failsTo, recordText, LineLow, OfTrace, PrintsRecord}

@@ -1,8 +1,8 @@
 -- Writing text into a lent buffer, piece by piece, and the text of a record with its verdict bytes.
 use Prim.Native.Nat.{ℕ, zero, suc, _+_, _≤_}
 use mathlib.Core.Path.{_≡_}
-use mathlib.Core.Bool.{Bool, true, false, cond}
-use mathlib.Core.List.{List, [], _∷_, _++_}
+use mathlib.Core.Bool.{Bool, false, cond}
+use mathlib.Core.List.{List, [], _++_}
 use lib.Dec.{eqb}
 use lib.ListN.{length, getD, take, drop}
 use Rattle.trace.specs.Trace.{Trace}
@@ -80,5 +80,6 @@ pub record OfTrace (a : LogChecked) : Type 0 where
   pub state : a .state ≡ recordOf trace
   pub line : LineLow (a .ending)
 
+-- the text of the record, from the front of the buffer on: at most 256 lines of 6 bytes, one of 9 and one of 22
 abbrev pub PrintsRecord : LogChecked → List ℕ → List ℕ → List ℕ → ℕ → Type 0
 PrintsRecord a v text text′ n = (t : Trace) → a .state ≡ recordOf t → WritesFew 1567 (recordText t (a .ending) v) text 0 text′ n

@@ -8,6 +8,7 @@ ghost use Rattle.report.specs.Writing.{byteLetter, endingText, unread?, 
 use monitor::Ending;
 use monitor::Tally;
 
+// One byte.
 fn put_byte(text: &mut [u8], at: usize, b: u8) -> usize
     requires { ⌜ at < length (now text) ⌝ }
     ensures { λ n. ⌜ Writes (b ∷ []) (now (text .entry)) at (now (text .exit)) n ⌝ }

@@ -1,5 +1,5 @@
 -- The loop's invariant: the lines of the verdict bytes passed are written, each of at most 6 bytes.
-use Prim.Native.Nat.{_+_, _*_, _-_, _≤_}
+use Prim.Native.Nat.{_*_, _-_, _≤_}
 use mathlib.Core.Path.{_≡_, refl}
 use native.Mathlib.Omega.{arith}
 use borrow.Author.Needs.{needs}

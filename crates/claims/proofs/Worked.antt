@@ -29,6 +29,7 @@ use Rattle.monitor.specs.Log.{byAnswer, ended, linesFrom, logOf}
 use Rattle.monitor.specs.Repeated.{Result}
 use Rattle.monitor.specs.Tally.{tallyOf, finishedRuns, failingFrom, tallyAfter}
 use Rattle.monitor.proofs.LineCall.{with-taken}
+use Rattle.report.proofs.Examples.{p1-output}
 use Rattle.claims.specs.Cases.{Long, pairByte1, p1Log, p1Run, p1Trace, P1, P9, P10, Cases}
 
 -- the call reads the lines
@@ -62,6 +63,7 @@ p1-case =
       rule = p1-taken;
       formula = p1-formula;
       verdicts = λ w out h. reads p1File p1Rule p1-taken p1Log w out h ∙ p1-lines w out;
+      output = p1-output;
       tally = p1-tally;
       byte-1 = λ w out h. byte-of _ (p1Run 7 1 0 1 ∷ []) w out h refl;
       byte-2 = λ w out h. byte-of _ (p1Run 7 1 0 1 ∷ p1Run 9 2 0 2 ∷ []) w out h refl;

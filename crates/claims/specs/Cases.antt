@@ -15,6 +15,7 @@ use Rattle.rules.specs.Cases.{p1File, p1Rule, noEveningIncludesTest, p10File, p
 use Rattle.monitor.specs.declared.Ending.the-variants as Ending
 use Rattle.monitor.specs.Log.{ended, logOf}
 use Rattle.monitor.specs.Tally.{tallyAfter}
+use Rattle.report.specs.Text.{reportText}
 
 -- the buffers of a whole-log call are long enough
 pub record Long (w out : List ℕ) : Type 0 where
@@ -42,7 +43,8 @@ pub record P1 : Type 0 where
   -- H, H, H, F
   pub verdicts : (w out : List ℕ) → Long w out
       → logOf p1File p1Log w out ≡ (ended p1Trace Ending.Read, workOf (p1Trace .runs) w, set (set (set (set out 0 1) 1 1) 2 1) 3 0)
-  -- "T 4 2 2 0 1"
+  -- "Whole output"
+  pub output : reportText p1File p1Log ≡ bytes "1 H\n2 H\n3 H\n4 F\nT 4 2 2 0 1\n"
   pub tally : tallyAfter p1File p1Rule p1Log p1Trace ≡ record { lines = 4; begun = 2; finished = 2; running = 0; failing = 1 }
   -- "Pair byte 1 (run 0 with run 1) is 0, 1, 4, 7 after the four lines."
   pub byte-1 : (w out : List ℕ) → Long w out → pairByte1 (bytes "B 7 EVENING\n") w out ≡ 0

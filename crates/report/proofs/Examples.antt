@@ -12,28 +12,26 @@ use Rattle.trace.specs.Trace.{noTrace, apply, beginRun, endRun, begin, end, end
 use Rattle.rules.specs.Labels.{placeOf}
 use Rattle.rules.specs.Table.{tree, formulaAt}
 use Rattle.rules.specs.Rules.{ruleOf}
+use Rattle.rules.specs.Cases.{p1File, p1Rule}
+use Rattle.rules.proofs.Worked.{p1-taken}
 use Rattle.logic.specs.Model.{eval}
 use Rattle.logic.specs.Verdict.{verdictOf}
-use Rattle.logic.proofs.Examples as Logic
 use Rattle.monitor.specs.Log.{byAnswer}
 use Rattle.monitor.specs.Tally.{tallyOf, finishedRuns}
 use Rattle.monitor.proofs.LineCall.{with-taken}
 use Rattle.report.specs.Text.{decimal, refusedText, tallyText, textFrom, reportText}
 
 -- with P1's rule
-abbrev printedOf : List ℕ → List ℕ
-printedOf log = reportText Logic.p1File log
-
-by-rule : (log s : List ℕ) → textFrom Logic.p1File Logic.p1Rule noTrace 0 (linesOf log) ≡ s → printedOf log ≡ s
+by-rule : (log s : List ℕ) → textFrom p1File p1Rule noTrace 0 (linesOf log) ≡ s → reportText p1File log ≡ s
 unfolding reportText
-by-rule log s e = with-taken {A = List ℕ} (ruleOf Logic.p1File) Logic.p1Rule _ _ (Logic.p1 .rule) ∙ e
+by-rule log s e = with-taken {A = List ℕ} (ruleOf p1File) p1Rule _ _ p1-taken ∙ e
 
-pub record P1 : Type 0 where
-  -- "Whole output"
-  pub output : printedOf (bytes "B 7 EVENING\nB 9 TEST\nE 9\nE 7\n") ≡ bytes "1 H\n2 H\n3 H\n4 F\nT 4 2 2 0 1\n"
-  -- "(as `3 R15`)": "`B 1`, `E 1`, `B 1`: the third gives 15"
-  pub refusal : printedOf (bytes "B 1\nE 1\nB 1\n") ≡ bytes "1 H\n2 H\n3 R15\nT 2 1 1 0 0\n"
-
-pub p1 : P1
+-- "Whole output"
+pub p1-output : reportText p1File (bytes "B 7 EVENING\nB 9 TEST\nE 9\nE 7\n") ≡ bytes "1 H\n2 H\n3 H\n4 F\nT 4 2 2 0 1\n"
 unfolding textFrom refusedText tallyText decimal digits tallyOf finishedRuns byAnswer verdictOf eval tree formulaAt placeOf apply eventOf beginRun withLabel labelOf pad indexOf begin sameLabel numberOf endRun endOf end close
-p1 = record { output = by-rule _ _ refl; refusal = by-rule _ _ refl }
+p1-output = by-rule _ _ refl
+
+-- "(as `3 R15`)": "`B 1`, `E 1`, `B 1`: the third gives 15"
+pub refused-output : reportText p1File (bytes "B 1\nE 1\nB 1\n") ≡ bytes "1 H\n2 H\n3 R15\nT 2 1 1 0 0\n"
+unfolding textFrom refusedText tallyText decimal digits tallyOf finishedRuns byAnswer verdictOf eval tree formulaAt placeOf apply eventOf beginRun withLabel labelOf pad indexOf begin sameLabel numberOf endRun endOf end close
+refused-output = by-rule _ _ refl

@@ -1,7 +1,5 @@
 // A rule's verdicts over a log: one letter for no lines, and one for each line.
 ghost use Rattle.rules.specs.Rules.{Taken};
-use super::steps;
-use super::text;
 use lines::Next;
 use logic::Verdict;
 use rules::Rule;
@@ -22,8 +20,8 @@ fn write_verdict(file: &[u8], x: Rule, r: Record, work: &[u8])
     }
     let v = logic::judge(file, x, r, work);
     match v {
-        Verdict::Holds => text::write(b"H"),
-        Verdict::Fails => text::write(b"F"),
+        Verdict::Holds => test_text::write(b"H"),
+        Verdict::Fails => test_text::write(b"F"),
     }
 }
 
@@ -51,8 +49,7 @@ fn show_line(file: &[u8], x: Rule, r: Record, o: Outcome, work: &mut [u8]) -> bo
             true
         }
         Outcome::Refused(code) => {
-            text::write(b"R");
-            text::write_number(code as u64);
+            test_text::write_refusal(code);
             false
         }
     }
@@ -72,7 +69,7 @@ fn show_log(file: &[u8], x: Rule, log: &[u8], work: &mut [u8])
         if let Next::Done = n {
             return;
         }
-        let a = steps::take_next(r, log, n);
+        let a = test_steps::take_next(r, log, n);
         r = a.state;
         let o = a.outcome;
         if !show_line(file, x, r, o, work) {
@@ -89,11 +86,11 @@ fn show_in(file: &[u8], log: &[u8], work: &mut [u8]) {
     match r {
         RuleRead::Rule(x) => show_log(file, x, log, work),
         RuleRead::Refused(code) => {
-            text::write(b"0 R");
-            text::write_number(code as u64);
+            test_text::write(b"0 R");
+            test_text::write_number(code as u64);
         }
     }
-    text::write(b"\n");
+    test_text::write(b"\n");
 }
 
 // Reads a rule file and writes its verdicts over a log.

@@ -1,5 +1,4 @@
 // A work area: what stands in it, and its pair bytes brought up to date and compared.
-use super::text;
 use trace::Record;
 use trace::RunNo;
 
@@ -20,23 +19,23 @@ pub fn count(work: &[u8], b: u8) -> u64 {
 pub fn show_byte(work: &[u8], at: usize) {
     if at < work.len() {
         let b = work[at];
-        text::write_number(text::wide(b));
+        test_text::write_number(test_text::wide(b));
     } else {
-        text::write(b"-");
+        test_text::write(b"-");
     }
 }
 
 // Writes the first byte, the last, and the count of 7s.
 pub fn show_area(work: &[u8]) {
-    text::write(b"first ");
+    test_text::write(b"first ");
     show_byte(work, 0);
-    text::write(b", last ");
+    test_text::write(b", last ");
     if 0 < work.len() {
         show_byte(work, work.len() - 1);
     }
-    text::write(b", sevens ");
-    text::write_number(count(work, 7));
-    text::write(b"\n");
+    test_text::write(b", sevens ");
+    test_text::write_number(count(work, 7));
+    test_text::write(b"\n");
 }
 
 // Brings the bytes of run k up to date.

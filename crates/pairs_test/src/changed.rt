@@ -1,6 +1,5 @@
 // Whether P1's work area matches its record where one byte is changed.
 use super::area;
-use super::text;
 use trace::Record;
 
 // Writes whether the area matches with another byte at a place, and puts the byte back.
@@ -10,10 +9,10 @@ fn changed(r: Record, work: &mut [u8], at: usize, b: u8) {
         work[at] = b;
         let yes = area::matches(r, work);
         work[at] = old;
-        text::write(b"byte ");
-        text::write_next(at as u64);
-        text::write_number(b as u64);
-        text::write_answer(yes);
+        test_text::write(b"byte ");
+        test_text::write_next(at as u64);
+        test_text::write_number(b as u64);
+        test_text::write_answer(yes);
     }
 }
 
@@ -41,15 +40,15 @@ fn change_rest(r: Record, work: &mut [u8]) {
 
 // P1's work area, changed in one byte; and as the area of the record of no lines.
 pub fn changes() {
-    text::write(b"changes\n");
+    test_text::write(b"changes\n");
     let mut area = [7u8; 16400];
     let work: &mut [u8] = &mut area;
     let r = super::show_log(b"B 7 EVENING\nB 9 TEST\nE 9\nE 7\n", work);
     change_pairs(r, work);
     change_unused(r, work);
     change_rest(r, work);
-    text::write(b"untouched");
-    text::write_answer(area::matches(r, work));
-    text::write(b"no lines");
-    text::write_answer(area::matches(trace::no_lines(), work));
+    test_text::write(b"untouched");
+    test_text::write_answer(area::matches(r, work));
+    test_text::write(b"no lines");
+    test_text::write_answer(area::matches(trace::no_lines(), work));
 }

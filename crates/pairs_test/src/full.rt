@@ -1,22 +1,12 @@
 // The work area of 128 runs: 8,128 pairs, 128 × 127 / 2.
 use super::area;
-use super::steps;
-use super::text;
 use trace::Outcome;
 use trace::Record;
 
-// The last decimal digit of a number.
-fn digit(n: u16) -> u8 {
-    (48 + n % 10) as u8
-}
-
 // Takes the line of a letter and the id `1..`, which ends in the last three digits of n, and brings the area up to date.
 fn take(r: Record, letter: u8, n: u16, work: &mut [u8]) -> Record {
-    let a = digit(n / 100);
-    let b = digit(n / 10);
-    let c = digit(n);
-    let line = [letter, b' ', b'1', a, b, c, b'\n'];
-    let s = steps::take_line(r, &line);
+    let line = test_steps::numbered_line(letter, n);
+    let s = test_steps::take_line(r, &line);
     let q = s.state;
     let o = s.outcome;
     if let Outcome::Taken(k) = o {
@@ -38,20 +28,20 @@ fn take_all(r: Record, letter: u8, work: &mut [u8]) -> Record {
 
 // Writes how many bytes are b, and whether the area matches.
 fn show_pairs(r: Record, work: &[u8], b: u8) {
-    text::write_number(r.lines.0 as u64);
-    text::write(b" lines, byte ");
-    text::write_number(b as u64);
-    text::write(b" times ");
-    text::write_number(area::count(work, b));
-    text::write(b", zeros ");
-    text::write_number(area::count(work, 0));
-    text::write(b", match");
-    text::write_answer(area::matches(r, work));
+    test_text::write_number(r.lines.0 as u64);
+    test_text::write(b" lines, byte ");
+    test_text::write_number(b as u64);
+    test_text::write(b" times ");
+    test_text::write_number(area::count(work, b));
+    test_text::write(b", zeros ");
+    test_text::write_number(area::count(work, 0));
+    test_text::write(b", match");
+    test_text::write_answer(area::matches(r, work));
 }
 
 // All begin, so that each pair is XY; then all end in the same order, so that each overlaps each later one.
 pub fn show() {
-    text::write(b"128 runs\n");
+    test_text::write(b"128 runs\n");
     let mut bytes = [7u8; 16400];
     let work: &mut [u8] = &mut bytes;
     let s = pairs::start_record(work);

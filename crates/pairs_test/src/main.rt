@@ -6,8 +6,6 @@
 mod area;
 mod changed;
 mod full;
-mod steps;
-mod text;
 
 use lines::Next;
 use pairs::Start;
@@ -18,11 +16,10 @@ use trace::Record;
 fn show_outcome(o: Start) {
     match o {
         Start::Ready => {
-            text::write(b"ready");
+            test_text::write(b"ready");
         }
         Start::Refused(code) => {
-            text::write(b"R");
-            text::write_number(code as u64);
+            test_text::write_refusal(code);
         }
     }
 }
@@ -34,16 +31,16 @@ fn show_start(work: &mut [u8]) {
     let o = a.outcome;
     show_outcome(o);
     let r = a.state;
-    text::write(b", lines ");
-    text::write_number(r.lines.0 as u64);
-    text::write(b", record");
-    text::write_answer(trace::is_record(r));
+    test_text::write(b", lines ");
+    test_text::write_number(r.lines.0 as u64);
+    test_text::write(b", record");
+    test_text::write_answer(trace::is_record(r));
     area::show_area(work);
 }
 
 // One byte too few, as many as wanted, and 16 more.
 fn starts() {
-    text::write(b"starts\n");
+    test_text::write(b"starts\n");
     let mut short = [7u8; 16383];
     show_start(&mut short);
     let mut whole = [7u8; 16384];
@@ -55,16 +52,16 @@ fn starts() {
 // Writes the pair bytes of the first runs.
 fn show_pairs(r: Record, work: &[u8]) {
     area::show_byte(work, 1);
-    text::write(b" ");
+    test_text::write(b" ");
     area::show_byte(work, 2);
-    text::write(b" ");
+    test_text::write(b" ");
     area::show_byte(work, 130);
-    text::write(b", ");
+    test_text::write(b", ");
     area::show_byte(work, 128);
-    text::write(b", zeros ");
-    text::write_number(area::count(work, 0));
-    text::write(b", match");
-    text::write_answer(area::matches(r, work));
+    test_text::write(b", zeros ");
+    test_text::write_number(area::count(work, 0));
+    test_text::write(b", match");
+    test_text::write_answer(area::matches(r, work));
 }
 
 // Brings the area up to date after a taken line and writes it, or writes the refusal. Answers whether the line was taken.
@@ -76,9 +73,8 @@ fn show_line(r: Record, o: Outcome, work: &mut [u8]) -> bool {
             true
         }
         Outcome::Refused(code) => {
-            text::write(b"R");
-            text::write_number(code as u64);
-            text::write(b"\n");
+            test_text::write_refusal(code);
+            test_text::write(b"\n");
             false
         }
     }
@@ -95,7 +91,7 @@ fn show_log(log: &[u8], work: &mut [u8]) -> Record {
         if let Next::Done = n {
             return r;
         }
-        let a = steps::take_next(r, log, n);
+        let a = test_steps::take_next(r, log, n);
         r = a.state;
         let o = a.outcome;
         if !show_line(r, o, work) {
@@ -109,8 +105,8 @@ fn show_log(log: &[u8], work: &mut [u8]) -> Record {
 
 // A log in a work area of its own.
 fn show(name: &[u8], log: &[u8]) {
-    text::write(name);
-    text::write(b"\n");
+    test_text::write(name);
+    test_text::write(b"\n");
     let mut area = [7u8; 16400];
     show_log(log, &mut area);
 }

@@ -2,16 +2,16 @@
 use super::text;
 
 fn show(start_a: u64, finish_a: u64, start_b: u64, finish_b: u64) {
-    text::write_next(start_a);
-    text::write_next(finish_a);
-    text::write_next(start_b);
-    text::write_number(finish_b);
-    text::write_answer(relations::relation_between(start_a, finish_a, start_b, finish_b) as u64);
+    test_text::write_next(start_a);
+    test_text::write_next(finish_a);
+    test_text::write_next(start_b);
+    test_text::write_number(finish_b);
+    text::write_answer(relations::relation_between(start_a, finish_a, start_b, finish_b));
 }
 
 // The six orders of four different positions.
 pub fn orders() {
-    text::write(b"positions\n");
+    test_text::write(b"positions\n");
     show(1, 2, 3, 4);
     show(3, 4, 1, 2);
     show(1, 3, 2, 4);
@@ -30,7 +30,7 @@ pub fn orders() {
 
 // Positions that are the same, and runs that finish before they start.
 pub fn others() {
-    text::write(b"other numbers\n");
+    test_text::write(b"other numbers\n");
     show(1, 2, 2, 3);
     show(1, 3, 1, 4);
     show(1, 4, 2, 4);

@@ -10,14 +10,14 @@ use trace::RunNo;
 
 // Writes how run a relates to run b.
 fn show(r: Record, a: u8, b: u8) {
-    text::write_next(a as u64);
-    text::write_number(b as u64);
+    test_text::write_next(a as u64);
+    test_text::write_number(b as u64);
     match relations::relate(r, RunNo(a), RunNo(b)) {
         Related::Relation(n) => {
-            text::write_answer(n as u64);
+            text::write_answer(n);
         }
         Related::Refused(code) => {
-            text::write_refusal(code as u64);
+            text::write_refusal(code);
         }
     }
 }
@@ -31,7 +31,7 @@ fn both_ways(log: &[u8]) {
 
 // Each of the six relations.
 pub fn two_runs() {
-    text::write(b"two runs\n");
+    test_text::write(b"two runs\n");
     both_ways(b"B 1\nE 1\nB 2\nE 2\n");
     both_ways(b"B 1\nB 2\nE 1\nE 2\n");
     both_ways(b"B 1\nB 2\nE 2\nE 1\n");
@@ -39,7 +39,7 @@ pub fn two_runs() {
 
 // Three runs, of which one is open for a while, and their labels do not matter.
 pub fn three_runs() {
-    text::write(b"three runs\n");
+    test_text::write(b"three runs\n");
     let r = steps::read_log(b"B 7 EVENING\nB 9 TEST\nE 9\nB 3 TEST\nE 7\nE 3\n");
     show(r, 0, 1);
     show(r, 0, 2);
@@ -51,7 +51,7 @@ pub fn three_runs() {
 
 // 22: open runs, numbers past the last run, and from 128 up. An open run twice is 22 too.
 pub fn unfinished() {
-    text::write(b"unfinished\n");
+    test_text::write(b"unfinished\n");
     let r = steps::read_log(b"B 1\nB 2\nE 1\n");
     show(r, 0, 1);
     show(r, 1, 0);
@@ -71,7 +71,7 @@ pub fn unfinished() {
 
 // 23: the same finished run twice.
 pub fn same() {
-    text::write(b"same\n");
+    test_text::write(b"same\n");
     let r = steps::read_log(b"B 1\nB 2\nE 1\nE 2\n");
     show(r, 0, 0);
     show(r, 1, 1);
@@ -86,7 +86,7 @@ fn show_damaged(r: Record) {
 
 // 21 comes first: a line too many, and an end line that is the other run's.
 pub fn damaged() {
-    text::write(b"damaged\n");
+    test_text::write(b"damaged\n");
     let mut r = steps::read_log(b"B 1\nB 2\nE 1\nE 2\n");
     let four = r.lines;
     let five = LineNo(5);
@@ -138,7 +138,7 @@ fn full_record() -> Record {
 
 // The last run of a full record.
 pub fn full() {
-    text::write(b"128 runs\n");
+    test_text::write(b"128 runs\n");
     let r = full_record();
     show(r, 0, 127);
     show(r, 127, 0);

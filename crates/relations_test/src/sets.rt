@@ -6,22 +6,22 @@ use relations::Composed;
 fn show_set(c: Composed) {
     match c {
         Composed::Set(n) => {
-            text::write_answer(n as u64);
+            text::write_answer(n);
         }
         Composed::Refused(code) => {
-            text::write_refusal(code as u64);
+            text::write_refusal(code);
         }
     }
 }
 
 fn show_composed(a: u8, b: u8) {
-    text::write_next(a as u64);
-    text::write_number(b as u64);
+    test_text::write_next(a as u64);
+    test_text::write_number(b as u64);
     show_set(relations::compose(a, b));
 }
 
 fn show_converse(c: u8) {
-    text::write_number(c as u64);
+    test_text::write_number(c as u64);
     show_set(relations::converse(c));
 }
 
@@ -39,7 +39,7 @@ fn number_at(i: u8) -> u8 {
 
 // The compositions of two relations, all 36.
 pub fn singles() {
-    text::write(b"single compositions\n");
+    test_text::write(b"single compositions\n");
     let mut i: u8 = 0;
     while i < 36 {
         show_composed(number_at(i / 6), number_at(i % 6));
@@ -49,7 +49,7 @@ pub fn singles() {
 
 // P2 to P8.
 pub fn worked() {
-    text::write(b"worked cases\n");
+    test_text::write(b"worked cases\n");
     show_composed(1, 1);
     show_composed(1, 2);
     show_composed(4, 4);
@@ -61,7 +61,7 @@ pub fn worked() {
 
 // Sets of several relations, none and all among them.
 pub fn several() {
-    text::write(b"several\n");
+    test_text::write(b"several\n");
     show_composed(0, 0);
     show_composed(63, 0);
     show_composed(63, 63);
@@ -76,7 +76,7 @@ pub fn several() {
 
 // 63 is taken and 64 refused, on each side.
 pub fn refusals() {
-    text::write(b"refusals\n");
+    test_text::write(b"refusals\n");
     show_composed(63, 1);
     show_composed(1, 63);
     show_composed(64, 1);
@@ -90,7 +90,7 @@ pub fn refusals() {
 
 // The converses of all 64 sets, and of numbers that are no sets.
 pub fn converses() {
-    text::write(b"converses\n");
+    test_text::write(b"converses\n");
     let mut c: u8 = 0;
     while c < 64 {
         show_converse(c);

@@ -1,30 +1,15 @@
-// Bytes and numbers on standard output.
-use libc::STDOUT_FILENO;
-
-pub fn write(text: &[u8]) {
-    io::write_all(STDOUT_FILENO, text);
-}
-
-pub fn write_number(n: u64) {
-    io::print_decimal(STDOUT_FILENO, n);
-}
-
-// Writes a number and a space.
-pub fn write_next(n: u64) {
-    write_number(n);
-    write(b" ");
-}
+// The ends of lines.
 
 // Ends a line with an answer.
-pub fn write_answer(n: u64) {
-    write(b": ");
-    write_number(n);
-    write(b"\n");
+pub fn write_answer(n: u8) {
+    test_text::write(b": ");
+    test_text::write_number(n as u64);
+    test_text::write(b"\n");
 }
 
 // Ends a line with a refusal.
-pub fn write_refusal(n: u64) {
-    write(b": R");
-    write_number(n);
-    write(b"\n");
+pub fn write_refusal(code: u8) {
+    test_text::write(b": ");
+    test_text::write_refusal(code);
+    test_text::write(b"\n");
 }

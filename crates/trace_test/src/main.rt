@@ -1,22 +1,19 @@
-// Writes what logs leave, line by line, and what `is_record` says of records that are changed in one place.
+// Writes what logs leave, line by line.
 //
 // A log's line answers `taken run K` or `R` and the refusal, which ends the log. Then come the counts of lines, runs and labels,
 // whether accepted lines leave the record, and each run as `id begin end label`.
-mod changed;
-mod damage;
 mod limits;
 mod steps;
-mod text;
 
 // The lines of P1.
 fn p1() {
-    text::write(b"P1\n");
+    test_text::write(b"P1\n");
     steps::show_log(b"B 7 EVENING\nB 9 TEST\nE 9\nE 7\n");
 }
 
 // 15, 16 and 17: what an id may not do.
 fn ids() {
-    text::write(b"ids\n");
+    test_text::write(b"ids\n");
     steps::show_log(b"B 1\nE 1\nB 1\nE 1\n");
     steps::show_log(b"B 1\nB 1 A\n");
     steps::show_log(b"E 5\n");
@@ -27,25 +24,18 @@ fn ids() {
 
 // A label has one number, whichever runs have it.
 fn numbers() {
-    text::write(b"labels\n");
+    test_text::write(b"labels\n");
     steps::show_log(b"B 1 A\nB 2 B\nB 3 A\nB 4\nE 1\nB 5 B\n");
 }
 
 // No line at all, and lines that are refused for their form.
 fn forms() {
-    text::write(b"forms\n");
+    test_text::write(b"forms\n");
     steps::show_log(b"");
     steps::show_log(b"B 1 A\nB 2 b\nB 3\n");
     steps::show_log(b"B 1\nE 1 A\n");
     steps::show_log(b"B 1\nE 0\n");
     steps::show_log(b"B 1\nE 1");
-}
-
-// Records that are changed in one place.
-fn changes() {
-    damage::three_lines();
-    damage::four_lines();
-    damage::no_lines();
 }
 
 fn main() {
@@ -56,5 +46,4 @@ fn main() {
     limits::runs();
     limits::names();
     limits::both();
-    changes();
 }

@@ -1,4 +1,4 @@
-// Bytes and numbers on standard output.
+// Bytes and numbers on standard output, as the test programs write them.
 use libc::STDOUT_FILENO;
 
 pub fn write(text: &[u8]) {
@@ -13,6 +13,12 @@ pub fn write_number(n: u64) {
 pub fn write_next(n: u64) {
     write_number(n);
     write(b" ");
+}
+
+// Writes a refusal: R and its number.
+pub fn write_refusal(code: u8) {
+    write(b"R");
+    write_number(code as u64);
 }
 
 // Ends a line with 1 or 0.

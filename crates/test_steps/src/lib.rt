@@ -1,4 +1,7 @@
-// Lines of a log, taken one after another.
+// One line of a log, taken on any record: what the test programs drive the calls on runs with.
+//
+// `take_line` takes a line that is given with its LF, `take_next` what a log reader hands out. `read_from` takes all lines of a log
+// and writes what happens to each. `numbered_line` makes one line of many.
 use labels::Label;
 use lines::Next;
 use lines::Parsed;
@@ -47,7 +50,7 @@ fn label_in(line: &[u8], at: usize, length: usize) -> Label {
 }
 
 // Takes one line, given with its LF.
-fn take_line(r: Record, line: &[u8]) -> Stepped {
+pub fn take_line(r: Record, line: &[u8]) -> Stepped {
     let p = lines::parse_line(line);
     match p {
         Parsed::Begin { id, label, length } => {
@@ -76,4 +79,67 @@ pub fn take_next(r: Record, log: &[u8], n: Next) -> Stepped {
         Next::Refused(code) => refused(r, code),
         Next::Done => refused(r, 11),
     }
+}
+
+// Writes what happened to a line.
+fn write_outcome(o: Outcome) {
+    match o {
+        Outcome::Taken(k) => {
+            test_text::write(b"taken run ");
+            test_text::write_number(k.0 as u64);
+        }
+        Outcome::Refused(code) => test_text::write_refusal(code),
+    }
+    test_text::write(b"\n");
+}
+
+// Whether a line was taken.
+fn was_taken(o: Outcome) -> bool {
+    match o {
+        Outcome::Taken(_) => true,
+        Outcome::Refused(_) => false,
+    }
+}
+
+// The record after the lines of a log, each of which is written. The first refused line stops it where `stop` says so.
+pub fn read_from(r: Record, log: &[u8], stop: bool) -> Record {
+    let mut q = r;
+    let mut place: usize = 0;
+    let mut left: usize = 256;
+    while 0 < left {
+        let n = lines::next_line(log, place);
+        if let Next::Done = n {
+            return q;
+        }
+        let a = take_next(q, log, n);
+        q = a.state;
+        let o = a.outcome;
+        write_outcome(o);
+        if !was_taken(o) {
+            if stop {
+                return q;
+            }
+        }
+        place = lines::place_after(n, place);
+        left -= 1;
+    }
+    q
+}
+
+// The last decimal digit of a number.
+pub fn digit(n: u16) -> u8 {
+    (48 + n % 10) as u8
+}
+
+// The line of a letter and the id `1..`, which ends in the last three digits of n.
+pub fn numbered_line(letter: u8, n: u16) -> [u8; 7] {
+    [
+        letter,
+        b' ',
+        b'1',
+        digit(n / 100),
+        digit(n / 10),
+        digit(n),
+        b'\n',
+    ]
 }

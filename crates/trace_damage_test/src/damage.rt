@@ -1,7 +1,5 @@
 // What `is_record` says of P1's record after three and four lines, and of the record of no lines, each changed in one place.
 use super::changed;
-use super::steps;
-use super::text;
 use trace::Record;
 
 // Another run's id, and no id. Other ids are those of another log.
@@ -108,8 +106,8 @@ fn line_counts(r: Record) {
 
 // The record of P1's first three lines.
 pub fn three_lines() {
-    text::write(b"after three lines of P1\n");
-    let r = steps::read_from(trace::no_lines(), b"B 7 EVENING\nB 9 TEST\nE 9\n", true);
+    test_text::write(b"after three lines of P1\n");
+    let r = test_steps::read_from(trace::no_lines(), b"B 7 EVENING\nB 9 TEST\nE 9\n", true);
     changed::untouched(r);
     ids(r);
     begins(r);
@@ -151,8 +149,8 @@ fn other_counts(r: Record) {
 
 // P1's record.
 pub fn four_lines() {
-    text::write(b"after P1\n");
-    let r = steps::read_from(
+    test_text::write(b"after P1\n");
+    let r = test_steps::read_from(
         trace::no_lines(),
         b"B 7 EVENING\nB 9 TEST\nE 9\nE 7\n",
         true,
@@ -171,7 +169,7 @@ pub fn four_lines() {
 
 // The record of no lines.
 pub fn no_lines() {
-    text::write(b"after no lines\n");
+    test_text::write(b"after no lines\n");
     let r = trace::no_lines();
     changed::untouched(r);
     changed::run(r, 0, 1, 1, 0, 0);

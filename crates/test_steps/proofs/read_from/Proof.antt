@@ -1,8 +1,8 @@
 -- The loop takes at most 256 lines.
 use Prim.Native.Nat.{_≤_}
 use borrow.Author.Needs.{needs}
-use Rattle.trace_test.proofs.steps.read_from.Statement.{statement}
-use Rattle.trace_test.proofs.steps.read_from.Tie as tie
+use Rattle.test_steps.proofs.read_from.Statement.{statement}
+use Rattle.test_steps.proofs.read_from.Tie as tie
 
 abbrev Inv-loop : tie.InvT-loop
 Inv-loop log stop q₀ place₀ left₀ q place left = left ≤ 256
@@ -25,8 +25,11 @@ returns c = search needs
 take-next-requires : tie.Need-take-next-requires Inv-loop μ-loop
 take-next-requires c κs = search needs
 
-show-outcome-requires : tie.Need-show-outcome-requires Inv-loop μ-loop
-show-outcome-requires c κs = search needs
+write-outcome-requires : tie.Need-write-outcome-requires Inv-loop μ-loop
+write-outcome-requires c κs = search needs
+
+was-taken-requires : tie.Need-was-taken-requires Inv-loop μ-loop
+was-taken-requires c κs = search needs
 
 returns-2 : tie.Need-returns-2 Inv-loop μ-loop
 returns-2 c = search needs
@@ -57,7 +60,8 @@ read-from-spec =
     enum-told
     returns
     take-next-requires
-    show-outcome-requires
+    write-outcome-requires
+    was-taken-requires
     returns-2
     place-after-requires
     sub-left

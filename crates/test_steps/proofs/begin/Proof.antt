@@ -2,8 +2,8 @@
 use borrow.Author.Needs.{needs}
 use borrow.Author.Tests.{not-false}
 use Rattle.trace.proofs.Bounds.{valid-fits}
-use Rattle.pairs_test.proofs.steps.begin.Statement.{statement}
-use Rattle.pairs_test.proofs.steps.begin.Tie as tie
+use Rattle.test_steps.proofs.begin.Statement.{statement}
+use Rattle.test_steps.proofs.begin.Tie as tie
 
 is-record-requires : tie.Need-is-record-requires
 is-record-requires c κs = search needs

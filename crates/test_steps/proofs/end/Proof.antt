@@ -2,8 +2,8 @@
 use borrow.Author.Needs.{needs}
 use borrow.Author.Tests.{not-false}
 use Rattle.trace.proofs.Bounds.{valid-fits}
-use Rattle.trace_test.proofs.steps.end.Statement.{statement}
-use Rattle.trace_test.proofs.steps.end.Tie as tie
+use Rattle.test_steps.proofs.end.Statement.{statement}
+use Rattle.test_steps.proofs.end.Tie as tie
 
 is-record-requires : tie.Need-is-record-requires
 is-record-requires c κs = search needs

@@ -2,8 +2,8 @@
 use Prim.Native.Nat.{_≤_, _-_}
 use lib.ListN.{length}
 use borrow.Author.Needs.{needs}
-use Rattle.monitor_test.proofs.show.sum.Statement.{statement}
-use Rattle.monitor_test.proofs.show.sum.Tie as tie
+use Rattle.test_calls.proofs.sum.Statement.{statement}
+use Rattle.test_calls.proofs.sum.Tie as tie
 
 abbrev Inv-loop : tie.InvT-loop
 Inv-loop bytes n₀ i₀ n i = i ≤ length bytes

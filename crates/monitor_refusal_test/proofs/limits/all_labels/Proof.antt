@@ -3,20 +3,20 @@ use Prim.Native.Nat.{_≤_, _-_}
 use mathlib.Core.Path.{_≡_}
 use lib.ListN.{length}
 use borrow.Author.Needs.{needs}
-use Rattle.monitor_test.proofs.limits.all_runs.Statement.{statement}
-use Rattle.monitor_test.proofs.limits.all_runs.Tie as tie
+use Rattle.monitor_refusal_test.proofs.limits.all_labels.Statement.{statement}
+use Rattle.monitor_refusal_test.proofs.limits.all_labels.Tie as tie
 
 abbrev Inv-loop : tie.InvT-loop
-Inv-loop work₀ q₀ n₀ work q n = (n ≤ 128) × (length work ≡ length work₀)
+Inv-loop work₀ q₀ n₀ work q n = (n ≤ 64) × (length work ≡ length work₀)
 
 abbrev μ-loop : tie.MeasureT-loop
-μ-loop work₀ q₀ n₀ work q n = 128 - n
+μ-loop work₀ q₀ n₀ work q n = 64 - n
 
 loop-holds : tie.Need-loop-holds Inv-loop μ-loop
 loop-holds c = search needs
 
-plain-requires : tie.Need-plain-requires Inv-loop μ-loop
-plain-requires c κs = search needs
+labelled-requires : tie.Need-labelled-requires Inv-loop μ-loop
+labelled-requires c κs = search needs
 
 add-n : tie.Need-add-n Inv-loop μ-loop
 add-n c = search needs
@@ -33,14 +33,14 @@ same-length c = search needs
 returns : tie.Need-returns Inv-loop μ-loop
 returns c = search needs
 
-pub all-runs-spec : {M : Type 1} → statement M
-all-runs-spec =
+pub all-labels-spec : {M : Type 1} → statement M
+all-labels-spec =
     tie.close
     (tie.spec
     Inv-loop
     μ-loop
     loop-holds
-    plain-requires
+    labelled-requires
     add-n
     loop-less
     loop-again

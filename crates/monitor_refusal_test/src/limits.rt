@@ -44,30 +44,18 @@ fn all_runs(r: Record, work: &mut [u8]) -> Record {
     q
 }
 
-fn shown(r: Record, work: &mut [u8], l: &[u8]) {
-    test_calls::check_line(b"RUL\x01\x00\x00\x02\x08\x00\x00\x03\x00\x00", r, work, l);
+// The lines of a log, with P10's rule.
+fn shown(r: Record, work: &mut [u8], log: &[u8]) {
+    test_calls::check_lines(b"RUL\x01\x00\x00\x02\x08\x00\x00\x03\x00\x00", r, work, log);
 }
 
-// 15 before 19, and 19.
-fn past_labels(r: Record, work: &mut [u8]) {
-    shown(r, work, b"B 1000 NEW\n");
-    shown(r, work, b"B 2000 NEW\n");
-}
-
-// 15 before 18, 18 before 19, 18, and an end line that is taken.
-fn past_runs(r: Record, work: &mut [u8]) {
-    shown(r, work, b"B 1000\n");
-    shown(r, work, b"B 2000 NEW\n");
-    shown(r, work, b"B 2000\n");
-    shown(r, work, b"E 1000\n");
-}
-
+// 15 before 19, and 19; then 15 before 18, 18 before 19, 18, and an end line that is taken.
 pub fn all() {
     test_text::write(b"64 labels, then 128 runs\n");
     let mut work = [7u8; 16400];
     let s = pairs::start_record(&mut work);
     let r = all_labels(s.state, &mut work);
-    past_labels(r, &mut work);
+    shown(r, &mut work, b"B 1000 NEW\nB 2000 NEW\n");
     let q = all_runs(r, &mut work);
-    past_runs(q, &mut work);
+    shown(q, &mut work, b"B 1000\nB 2000 NEW\nB 2000\nE 1000\n");
 }

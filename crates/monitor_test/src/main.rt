@@ -4,13 +4,13 @@
 // the sum of the work area's bytes; with a tally, T and its five counts. An answer to a whole log is `read` or the line and the
 // refusal; then the same; then the first eight verdict bytes, and the sum of all. A work area holds 7s before the call and has 16
 // bytes past its pair bytes, whose sum is 112; a verdict buffer holds 260 9s.
-mod calls;
 mod tallies;
 
 // A log, line by line and as a whole.
 fn both(file: &[u8], log: &[u8]) {
-    let mut bytes = [7u8; 16400];
-    calls::by_line(file, &mut bytes, log);
+    let mut work = [7u8; 16400];
+    let s = pairs::start_record(&mut work);
+    test_calls::check_lines(file, s.state, &mut work, log);
     test_calls::check_log(file, log);
 }
 

@@ -68,18 +68,23 @@ fn with(y: Tally, l: &[u8]) {
     );
 }
 
+// The next line of P1 on that record, with these counts.
+fn counts(lines: u32, begun: u32, finished: u32, running: u32, failing: u32) {
+    with(tally(lines, begun, finished, running, failing), b"E 7\n");
+}
+
 // The tally of three lines is 3 2 1 1: each count off by one either way, and more failing lines than lines.
 fn off_by_one() {
     test_text::write(b"counts off by one\n");
-    with(tally(4, 2, 1, 1, 0), b"E 7\n");
-    with(tally(2, 2, 1, 1, 0), b"E 7\n");
-    with(tally(3, 3, 1, 1, 0), b"E 7\n");
-    with(tally(3, 1, 1, 1, 0), b"E 7\n");
-    with(tally(3, 2, 2, 1, 0), b"E 7\n");
-    with(tally(3, 2, 0, 1, 0), b"E 7\n");
-    with(tally(3, 2, 1, 2, 0), b"E 7\n");
-    with(tally(3, 2, 1, 0, 0), b"E 7\n");
-    with(tally(3, 2, 1, 1, 4), b"E 7\n");
+    counts(4, 2, 1, 1, 0);
+    counts(2, 2, 1, 1, 0);
+    counts(3, 3, 1, 1, 0);
+    counts(3, 1, 1, 1, 0);
+    counts(3, 2, 2, 1, 0);
+    counts(3, 2, 0, 1, 0);
+    counts(3, 2, 1, 2, 0);
+    counts(3, 2, 1, 0, 0);
+    counts(3, 2, 1, 1, 4);
 }
 
 // 24 before the line; a refused line hands the tally back.
@@ -126,5 +131,5 @@ pub fn all() {
     strange(b"RUX");
     strange_short(b"RUX");
     test_text::write(b"as many failing lines as lines\n");
-    with(tally(3, 2, 1, 1, 3), b"E 7\n");
+    counts(3, 2, 1, 1, 3);
 }

@@ -1,9 +1,10 @@
 // The calls of the check, with what they answer written, for the test programs.
 //
 // `check_line` writes the answer to a line as H, F or R and the refusal; then the counts of lines, runs and labels of the record that
-// is handed back; then the sum of the work area's bytes. `check_log` writes the answer to a whole log as `read` or the line and the
-// refusal; then the same; then the first eight verdict bytes, and the sum of all. `left_by` hands out the record that a log leaves,
-// and writes nothing.
+// is handed back; then the sum of the work area's bytes. `check_lines` does so for each line of a log. `check_log` writes the answer
+// to a whole log as `read` or the line and the refusal; then the same; then the first eight verdict bytes, and the sum of all.
+// `left_by` hands out the record that a log leaves, and writes nothing.
+use lines::Next;
 use monitor::Ending;
 use monitor::LogChecked;
 use monitor::Outcome;
@@ -47,6 +48,46 @@ pub fn check_line(file: &[u8], r: Record, work: &mut [u8], line: &[u8]) -> Recor
     let q = c.state;
     write_state(q, work);
     test_text::write(b"\n");
+    q
+}
+
+// The line that stands in a log from start to before end.
+fn check_part(
+    file: &[u8],
+    r: Record,
+    work: &mut [u8],
+    log: &[u8],
+    start: usize,
+    end: usize,
+) -> Record {
+    if start <= end {
+        if end <= log.len() {
+            return check_line(file, r, work, &log[start..end]);
+        }
+    }
+    r
+}
+
+// What a log reader hands out.
+fn check_next(file: &[u8], r: Record, work: &mut [u8], log: &[u8], n: Next) -> Record {
+    match n {
+        Next::Line { start, end } => check_part(file, r, work, log, start, end),
+        Next::Refused(_) => r,
+        Next::Done => r,
+    }
+}
+
+// The lines of a log one after another, refused ones too, each with its answer.
+pub fn check_lines(file: &[u8], r: Record, work: &mut [u8], log: &[u8]) -> Record {
+    let mut q = r;
+    let mut place: usize = 0;
+    let mut left: usize = 256;
+    while 0 < left {
+        let n = lines::next_line(log, place);
+        q = check_next(file, q, work, log, n);
+        place = lines::place_after(n, place);
+        left -= 1;
+    }
     q
 }
 

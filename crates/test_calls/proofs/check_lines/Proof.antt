@@ -3,8 +3,8 @@ use Prim.Native.Nat.{_≤_}
 use mathlib.Core.Path.{_≡_}
 use lib.ListN.{length}
 use borrow.Author.Needs.{needs}
-use Rattle.monitor_test.proofs.calls.by_line.Statement.{statement}
-use Rattle.monitor_test.proofs.calls.by_line.Tie as tie
+use Rattle.test_calls.proofs.check_lines.Statement.{statement}
+use Rattle.test_calls.proofs.check_lines.Tie as tie
 
 abbrev Inv-loop : tie.InvT-loop
 Inv-loop file work₀ log q₀ place₀ left₀ work q place left = (left ≤ 256) × (length work ≡ length work₀)
@@ -12,17 +12,14 @@ Inv-loop file work₀ log q₀ place₀ left₀ work q place left = (left ≤ 25
 abbrev μ-loop : tie.MeasureT-loop
 μ-loop file work₀ log q₀ place₀ left₀ work q place left = left
 
-start-record-requires : tie.Need-start-record-requires Inv-loop μ-loop
-start-record-requires c κs = search needs
-
 loop-holds : tie.Need-loop-holds Inv-loop μ-loop
 loop-holds c = search needs
 
 next-line-requires : tie.Need-next-line-requires Inv-loop μ-loop
 next-line-requires c κs = search needs
 
-handed-requires : tie.Need-handed-requires Inv-loop μ-loop
-handed-requires c κs = search needs
+check-next-requires : tie.Need-check-next-requires Inv-loop μ-loop
+check-next-requires c κs = search needs
 
 place-after-requires : tie.Need-place-after-requires Inv-loop μ-loop
 place-after-requires c κs = search needs
@@ -42,16 +39,15 @@ same-length c = search needs
 returns : tie.Need-returns Inv-loop μ-loop
 returns c = search needs
 
-pub by-line-spec : {M : Type 1} → statement M
-by-line-spec =
+pub check-lines-spec : {M : Type 1} → statement M
+check-lines-spec =
     tie.close
     (tie.spec
     Inv-loop
     μ-loop
-    start-record-requires
     loop-holds
     next-line-requires
-    handed-requires
+    check-next-requires
     place-after-requires
     sub-left
     loop-less

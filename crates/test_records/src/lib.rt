@@ -1,6 +1,6 @@
 // Records that are changed in one place, and whether two records are the same, for the test programs.
 //
-// A place past an array's end is no change. What the functions change, they leave unchecked: most of these records are none that accepted lines leave.
+// A place past an array's end is no change. Nothing is checked: most of these records are none that accepted lines leave.
 use labels::Label;
 use labels::LabelNo;
 use labels::LabelTable;

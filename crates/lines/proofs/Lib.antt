@@ -5,3 +5,4 @@ pub mod Parser
 pub mod Rendered
 pub mod Event
 pub mod Log
+pub mod Local

@@ -1,4 +1,4 @@
-// Writes what `parse_line` and `next_line` answer for the paper's cases and those at their edges.
+// Writes what `parse_line`, `next_line` and a reader answer for the paper's cases and those at their edges.
 //
 // The cases of `parse_line` are parts of byte strings: each ends before a `|`, which no case has.
 ghost use Prim.Native.Nat.{_≤_};
@@ -66,9 +66,9 @@ fn show_lines(cases: &[u8]) {
     }
 }
 
-// Writes what stands at a place of a log.
-fn show_next(log: &[u8], place: usize) {
-    match lines::next_line(log, place) {
+// Writes what stands at a place.
+fn show_answer(n: Next) {
+    match n {
         Next::Line { start, end } => {
             write(b"line ");
             write_number(start as u64);
@@ -83,6 +83,12 @@ fn show_next(log: &[u8], place: usize) {
             write(b"done");
         }
     }
+}
+
+// Writes what stands at a place of a log.
+fn show_next(log: &[u8], place: usize) {
+    let n = lines::next_line(log, place);
+    show_answer(n);
     write(b"\n");
 }
 
@@ -136,6 +142,27 @@ fn show_log(log: &[u8]) {
     }
 }
 
+// Writes what a reader at a place answers, and its place after that.
+fn show_reader(log: &[u8], place: usize) -> usize {
+    let a = lines::line_from(log, place);
+    let n = a.next;
+    show_answer(n);
+    write(b", place ");
+    write_number(a.place as u64);
+    write(b"\n");
+    a.place
+}
+
+// Writes what the reader of a log answers in four calls.
+fn show_readers(log: &[u8]) {
+    let mut place: usize = 0;
+    let mut calls: usize = 0;
+    while calls < 4 {
+        place = show_reader(log, place);
+        calls += 1;
+    }
+}
+
 // Two lines, from each kind of place.
 fn places() {
     write(b"places\n");
@@ -168,6 +195,18 @@ fn walks() {
     show_log(b"B 5\nE 5");
 }
 
+// The same through a reader: two lines; a last line without its LF; no bytes; a line of 40 bytes, and one of 41; places within and past a log.
+fn readers() {
+    write(b"readers\n");
+    show_readers(b"B 5 TEST\nE 5\n");
+    show_readers(b"B 5\nE 5");
+    show_readers(b"");
+    show_readers(b"B 5\nAAAAAAAAAAAAAAAAAAAAAAAAAAAAAAAAAAAAAAA\n");
+    show_readers(b"B 5\nAAAAAAAAAAAAAAAAAAAAAAAAAAAAAAAAAAAAAAAA\n");
+    show_reader(b"B 5 TEST\nE 5\n", 4);
+    show_reader(b"B 5 TEST\nE 5\n", 14);
+}
+
 fn main() {
     ids();
     labels();
@@ -176,4 +215,5 @@ fn main() {
     places();
     edges();
     walks();
+    readers();
 }

@@ -6,7 +6,8 @@ use mathlib.Core.List.{List}
 use native.Mathlib.Omega.{arith}
 use lib.ListN.{length, set}
 use Rattle.lines.specs.Line.{eventOf}
-use Rattle.lines.specs.Log.{nextLine}
+use Rattle.lines.specs.Log.{nextLine, advancedFrom}
+use Rattle.lines.specs.declared.Advanced.{Advanced}
 use Rattle.lines.specs.declared.Next.{Next}
 use Rattle.lines.specs.declared.Next.the-variants as Next
 use Rattle.lines.proofs.Log.{line-is-handed-out}
@@ -103,20 +104,20 @@ module _ (file : List ℕ) (x : Rule) (log : List ℕ) (s e : ℕ) (r : Record) 
       (λ i. (k i, v, out)) ∙ ((λ i. (stopped (o .state i) (g i), o .pairs i, out)) ∙ ap (turnAfter file x t w out e) (sym p)))
 
 -- ── what the reader hands out ──
-module _ (file : List ℕ) (x : Rule) (log : List ℕ) (place : ℕ) (r : Record) (w out : List ℕ) (p : Next) (q : p ≡ nextLine log place) where
-  handed : (n : Next) → p ≡ n → nextLine log place ≡ n
-  handed n e = sym q ∙ e
+module _ (file : List ℕ) (x : Rule) (log : List ℕ) (place : ℕ) (r : Record) (w out : List ℕ) (p : Advanced) (q : p ≡ advancedFrom log place) where
+  handed : (n : Next) → p .next ≡ n → nextLine log place ≡ n
+  handed n e = sym (ap (λ (a : Advanced). a .next) q) ∙ e
 
-  pub turns-done : p ≡ Next.Done → Turns file x log place r w out (turned r (Ended Read)) w out
+  pub turns-done : p .next ≡ Next.Done → Turns file x log place r w out (turned r (Ended Read)) w out
   unfolding turnOf
   turns-done e old t l = (λ i. (turned (l .encoded i) (Ended Read), w, out)) ∙ ap (turnOf file x log t w out) (sym (handed Next.Done e))
 
-  pub turns-refused : (n : ℕ) → p ≡ Next.Refused n → (b : Turned) → b ≡ stopped r n → Turns file x log place r w out b w out
+  pub turns-refused : (n : ℕ) → p .next ≡ Next.Refused n → (b : Turned) → b ≡ stopped r n → Turns file x log place r w out b w out
   unfolding turnOf
   turns-refused n e b k old t l =
       (λ i. (k i, w, out)) ∙ ((λ i. (stopped (l .encoded i) n, w, out)) ∙ ap (turnOf file x log t w out) (sym (handed (Next.Refused n) e)))
 
-  module _ (s e : ℕ) (k : p ≡ Next.Line s e) where
+  module _ (s e : ℕ) (k : p .next ≡ Next.Line s e) where
     pub turns-line : (b : Turned) (v o : List ℕ) → TakesLine file x log s e r w out b v o → Turns file x log place r w out b v o
     unfolding turnOf
     turns-line b v o f old t l = f old t l ∙ ap (turnOf file x log t w out) (sym (handed (Next.Line s e) k))

@@ -17,3 +17,4 @@ pub mod LogCall
 pub mod Cut
 pub mod TallyLaws
 pub mod Failing
+pub mod Local

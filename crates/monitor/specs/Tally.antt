@@ -151,3 +151,12 @@ pub record ChecksTallied (file : List ℕ) (r : Record) (y : Tally) (w line : Li
   pub answer : (k : Option Trace) → (Reached file w → HandedBy r w k) → _≡_ {A = Tallied × List ℕ} (a, w′) (talliedOf file r y w line k)
   pub meaning : (x : Rule) → ruleOf file ≡ RuleRead.Rule x → (log : List ℕ) (t : Trace) → Left log t r w → counts? t y ≡ true
       → TalliedMeans file x log t r y w line a w′
+
+-- the answer with a tally
+abbrev pub withTally : Checked → Tally → Tallied
+withTally c y = record { state = c .state; tally = y; outcome = c .outcome }
+
+-- "A second form of the single-line call is also lent one tally, updated where it stands after each accepted line": the answer, with the
+-- tally y′ and the work area w′ at exit, is that of the call by value at the tally y lent
+abbrev pub ChecksLent : List ℕ → Record → Tally → List ℕ → List ℕ → Checked → Tally → List ℕ → Type 0
+ChecksLent file r y w line c y′ w′ = ChecksTallied file r y w line (withTally c y′) w′

@@ -1,10 +1,10 @@
-// Tallies: the counts of a record, whether a tally has them, and the tally after a line.
+// Tallies: the counts of a record, whether a tally has them, the tally after a line, and its update where it stands.
 ghost use mathlib.Core.Path.{_≡_};
 ghost use Prim.Native.Nat.{_≤_};
 ghost use Rattle.trace.specs.Steps.{held};
 ghost use Rattle.rules.specs.Rules.{Taken};
 ghost use Rattle.monitor.specs.Handed.{Standing};
-ghost use Rattle.monitor.specs.Tally.{finishedRuns, refusingWith, CountsRecord, MatchesRecord, CountsLine, AdvancesTallied};
+ghost use Rattle.monitor.specs.Tally.{finishedRuns, refusingWith, untallied, CountsRecord, MatchesRecord, CountsLine, AdvancesTallied};
 use crate::Checked;
 use crate::Outcome;
 use crate::Tallied;
@@ -133,4 +133,15 @@ pub fn advance_tallied(
     }
     let c = advance(file, rule, r, work, line);
     count_line(c, y)
+}
+
+// The lent tally becomes that of the answer; the rest of the answer.
+pub fn update(tally: &mut Tally, a: Tallied) -> Checked
+    ensures { λ c. ⌜ (c ≡ untallied a) × (now (tally .exit) ≡ a .tally) ⌝ }
+{
+    *tally = a.tally;
+    Checked {
+        state: a.state,
+        outcome: a.outcome,
+    }
 }

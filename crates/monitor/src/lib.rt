@@ -1,10 +1,11 @@
 // The calls of the check: one line, one line with a tally, a whole log.
 //
 // `check_line` takes one line on a record and a work area, `check_line_tallied` the same with a tally, `check_log` a whole log.
-// Inside, `step::advance` takes a line on a record and a work area that are known to be good, and all three end in it.
+// `check_line_lent` is lent the tally, and updates it where it stands; `lend_tally` calls it for a caller that holds a tally by value.
+// Inside, `step::advance` takes a line on a record and a work area that are known to be good, and all of them end in it.
 ghost use mathlib.Core.Path.{_≡_};
 ghost use Rattle.monitor.specs.Line.{ChecksLine};
-ghost use Rattle.monitor.specs.Tally.{ChecksTallied};
+ghost use Rattle.monitor.specs.Tally.{ChecksTallied, ChecksLent};
 ghost use Rattle.monitor.specs.Log.{notRead, ChecksLog};
 pub use counts::tally_of;
 use rules::RuleRead;
@@ -119,6 +120,33 @@ pub fn check_line_tallied(file: &[u8], r: Record, y: Tally, work: &mut [u8], lin
             }
             return counts::advance_tallied(file, rule, r, y, work, line);
         }
+    }
+}
+
+// The same with a tally that is lent: it is updated where it stands, and the answer has the other parts.
+pub fn check_line_lent(
+    file: &[u8],
+    r: Record,
+    tally: &mut Tally,
+    work: &mut [u8],
+    line: &[u8],
+) -> Checked
+    ensures { λ c. ⌜ ChecksLent (now (file .entry)) r (now (tally .entry)) (now (work .entry)) (now (line .entry)) c (now (tally .exit)) (now (work .exit)) ⌝ }
+{
+    let a = check_line_tallied(file, r, *tally, work, line);
+    counts::update(tally, a)
+}
+
+// The same for a caller that holds the tally by value: a tally of its own is lent.
+pub fn lend_tally(file: &[u8], r: Record, y: Tally, work: &mut [u8], line: &[u8]) -> Tallied
+    ensures { λ a. ⌜ ChecksTallied (now (file .entry)) r y (now (work .entry)) (now (line .entry)) a (now (work .exit)) ⌝ }
+{
+    let mut tally = y;
+    let c = check_line_lent(file, r, &mut tally, work, line);
+    Tallied {
+        state: c.state,
+        tally: tally,
+        outcome: c.outcome,
     }
 }
 

@@ -1,0 +1,342 @@
+//! Seeded cases for the check: rule files, logs, records and lent buffers, sound and
+//! damaged in every way that the paper has a refusal for.
+//!
+//! `case(seed)` gives the input of every call. `reference_answers(&case)` gives what
+//! the reference answers and leaves in each buffer. To hold another implementation
+//! against the reference, give it the same case and compare with the answers.
+
+pub mod logs;
+pub mod random;
+pub mod records;
+pub mod rules;
+
+use random::Random;
+use reference::calls::{
+    check_line, check_line_with_tally, check_log, compose, converse, counts_of, next_line, relation_between,
+    start_record, LineAnswer, LogAnswer, NextLine, Tally,
+};
+use reference::formula::Formula;
+use reference::line::Event;
+use reference::record::{lines_of, pair_bytes, record_of, Record};
+use reference::report::report;
+use reference::rule::{read_rule, Rule};
+use reference::trace::accepted_lines;
+use reference::{Refusal, PAIR_BYTES, VERDICT_BYTES};
+
+/// The input of every call.
+#[derive(Clone, PartialEq, Eq, Debug)]
+pub struct Case {
+    pub seed: u64,
+    /// What the log is meant to be; for messages.
+    pub kind: &'static str,
+
+    /// The program and the whole-log call: the rule file, the log, the two buffers.
+    pub rule: Vec<u8>,
+    pub log: Vec<u8>,
+    pub log_work: Vec<u8>,
+    pub verdicts: Vec<u8>,
+
+    /// The single-line call, with the same rule; and the form that is lent a tally.
+    pub record: Record,
+    pub work: Vec<u8>,
+    pub tally: Tally,
+    pub line: Vec<u8>,
+
+    /// The log reader, with the same log.
+    pub place: usize,
+    /// Starting a record.
+    pub start_work: Vec<u8>,
+    /// Relating two runs of `record`.
+    pub runs: (u64, u64),
+    /// Composing two sets; the first one's converse.
+    pub sets: (u64, u64),
+}
+
+/// What the reference answers, and what it leaves in each buffer.
+#[derive(Clone, PartialEq, Eq, Debug)]
+pub struct Answers {
+    pub report: Vec<u8>,
+    pub log: LogAnswer,
+    pub log_work: Vec<u8>,
+    pub verdicts: Vec<u8>,
+    pub line: LineAnswer,
+    pub line_work: Vec<u8>,
+    pub tally_line: LineAnswer,
+    pub tally_work: Vec<u8>,
+    pub tally: Tally,
+    /// The line handed out, 11, or no line; and the place after it.
+    pub next_line: (Result<Option<Vec<u8>>, Refusal>, usize),
+    pub start: Result<Record, Refusal>,
+    pub start_work: Vec<u8>,
+    pub relation: Result<u8, Refusal>,
+    pub composition: Result<u8, Refusal>,
+    pub converse: Result<u8, Refusal>,
+}
+
+impl Answers {
+    /// The refusal numbers among the answers.
+    pub fn refusals(&self) -> Vec<Refusal> {
+        let numbers = [
+            self.log.refusal.map(|(number, _)| number),
+            self.line.verdict.err(),
+            self.tally_line.verdict.err(),
+            self.next_line.0.as_ref().err().copied(),
+            self.start.as_ref().err().copied(),
+            self.relation.err(),
+            self.composition.err(),
+            self.converse.err(),
+        ];
+        numbers.into_iter().flatten().collect()
+    }
+}
+
+/// How much work judging a log with a rule may be, counted in formulas looked at:
+/// mostly little, so that many cases fit in a short time, and now and then much.
+const LITTLE_WORK: u64 = 100_000;
+const MUCH_WORK: u64 = 25_000_000;
+const MUCH_WORK_IN: usize = 5;
+
+/// The case of this seed.
+pub fn case(seed: u64) -> Case {
+    let random = &mut Random::new(seed);
+    let rule_labels = some_labels(random);
+    let log = logs::any_log(random, &rule_labels);
+    let (accepted, _) = accepted_lines(&log.bytes);
+    let rule = rule_for(random, &rule_labels, &accepted);
+    let mut file = rule_file(random, &rule);
+    // A fault may leave a legal rule that is too much work; then there is no fault.
+    if read_rule(&file).is_ok_and(|other| work_of(&other, &accepted) > MUCH_WORK) {
+        file = rule.to_bytes();
+    }
+
+    // The record of a beginning of the log.
+    let lines = if random.chance(1, 3) { accepted.len() } else { random.below(accepted.len() + 1) };
+    let before = &accepted[..lines];
+    let line = logs::next_line(random, before, &rule_labels);
+    let mut record = record_of(before);
+    let mut work = pair_bytes(&record);
+    let mut tally = counts_of(before);
+    tally.failing = random.below(lines + 1) as u64;
+    damage_some(random, &mut record, &mut work, &mut tally);
+
+    Case {
+        seed,
+        kind: log.kind,
+        rule: file,
+        log_work: lent_buffer(random, PAIR_BYTES),
+        verdicts: lent_buffer(random, VERDICT_BYTES),
+        place: random.below(log.bytes.len() + 50),
+        log: log.bytes,
+        runs: two_runs(random, &record),
+        record,
+        work,
+        tally,
+        line,
+        start_work: lent_buffer(random, PAIR_BYTES),
+        sets: (any_set(random), any_set(random)),
+    }
+}
+
+/// What the reference makes of the case.
+pub fn reference_answers(case: &Case) -> Answers {
+    let mut log_work = case.log_work.clone();
+    let mut verdicts = case.verdicts.clone();
+    let log = check_log(&case.rule, &case.log, &mut log_work, &mut verdicts);
+    let mut line_work = case.work.clone();
+    let line = check_line(&case.rule, &case.record, &mut line_work, &case.line);
+    let mut tally_work = case.work.clone();
+    let mut tally = case.tally;
+    let tally_line = check_line_with_tally(&case.rule, &case.record, &mut tally_work, &mut tally, &case.line);
+    let mut start_work = case.start_work.clone();
+    let start = start_record(&mut start_work);
+    Answers {
+        report: report(&case.rule, &case.log),
+        log,
+        log_work,
+        verdicts,
+        line,
+        line_work,
+        tally_line,
+        tally_work,
+        tally,
+        next_line: match next_line(&case.log, case.place) {
+            NextLine::Line(line, after) => (Ok(Some(line.to_vec())), after),
+            NextLine::Refused(number, place) => (Err(number), place),
+            NextLine::NoLine(place) => (Ok(None), place),
+        },
+        start,
+        start_work,
+        relation: relation_between(&case.record, case.runs.0, case.runs.1),
+        composition: compose(case.sets.0, case.sets.1),
+        converse: converse(case.sets.0),
+    }
+}
+
+/// Labels for the rule's list: none to 16, all different.
+fn some_labels(random: &mut Random) -> Vec<Vec<u8>> {
+    let wanted = *random.pick(&[0, 1, 1, 2, 2, 2, 3, 4, 16]);
+    let mut labels: Vec<Vec<u8>> = Vec::new();
+    while labels.len() < wanted {
+        let label = logs::any_label(random);
+        if !labels.contains(&label) {
+            labels.push(label);
+        }
+    }
+    labels
+}
+
+/// A legal rule that can be judged over these lines without too much work.
+fn rule_for(random: &mut Random, labels: &[Vec<u8>], accepted: &[Event]) -> Rule {
+    if random.chance(1, 60) {
+        return rules::longest_rule(random);
+    }
+    let limit = if random.chance(1, MUCH_WORK_IN) { MUCH_WORK } else { LITTLE_WORK };
+    let mut depth = *random.pick(&[1, 2, 2, 3, 3, 4]);
+    loop {
+        let rule = rules::legal_rule(random, labels.to_vec(), depth);
+        if work_of(&rule, accepted) <= limit {
+            return rule;
+        }
+        depth = (depth - 1).max(1);
+    }
+}
+
+/// The most formulas that judging every line with this rule looks at.
+fn work_of(rule: &Rule, accepted: &[Event]) -> u64 {
+    let finished = counts_of(accepted).finished;
+    (accepted.len() as u64 + 2) * formulas_looked_at(&rule.formula(), finished)
+}
+
+/// The most formulas that judging this one looks at, with so many finished runs.
+fn formulas_looked_at(formula: &Formula, finished: u64) -> u64 {
+    match formula {
+        Formula::And(first, second) => {
+            1 + formulas_looked_at(first, finished) + formulas_looked_at(second, finished)
+        }
+        Formula::Not(child) => 1 + formulas_looked_at(child, finished),
+        Formula::Some(_, child) => 1 + finished * formulas_looked_at(child, finished),
+        _ => 1,
+    }
+}
+
+/// The rule's file, in a good part of the cases with a fault or two.
+fn rule_file(random: &mut Random, rule: &Rule) -> Vec<u8> {
+    match random.below(100) {
+        0..=74 => rule.to_bytes(),
+        75..=92 => {
+            let number = random.between(1, 10) as u8;
+            rules::damaged_file(random, rule, number)
+        }
+        93..=96 => {
+            // Two faults in one file: the order decides which is met.
+            let number = random.between(2, 10) as u8;
+            let mut file = rules::damaged_file(random, rule, number);
+            match random.below(3) {
+                0 => file.truncate(random.below(file.len() + 1)),
+                1 => file.push(random.byte()),
+                _ => {
+                    let at = random.below(file.len());
+                    file[at] = random.byte();
+                }
+            }
+            file
+        }
+        97..=98 => {
+            let mut file = rule.to_bytes();
+            for _ in 0..random.between(1, 3) {
+                let at = random.below(file.len());
+                file[at] = if random.chance(1, 2) { random.byte() } else { random.below(10) as u8 };
+            }
+            file
+        }
+        _ => {
+            let length = random.below(700);
+            random.bytes(length)
+        }
+    }
+}
+
+/// Spoils the record, the pair bytes or the tally, or lends a short work area, in about
+/// half of the cases.
+fn damage_some(random: &mut Random, record: &mut Record, work: &mut Vec<u8>, tally: &mut Tally) {
+    // Bytes past the pair bytes, which no call changes.
+    let length = random.below(6);
+    work.extend(random.bytes(length));
+    match random.below(20) {
+        0..=4 => {
+            for _ in 0..random.between(1, 2) {
+                records::damage_record(random, record);
+            }
+            // If another real record came out, give it its own pair bytes half of the time.
+            if random.chance(1, 2) && lines_of(record).is_some() {
+                work[..PAIR_BYTES].copy_from_slice(&pair_bytes(record));
+            }
+        }
+        5..=6 => records::damage_pair_bytes(random, work),
+        7..=9 => records::damage_tally(random, tally),
+        10 => {
+            if random.chance(1, 2) {
+                records::damage_record(random, record);
+            } else {
+                records::damage_pair_bytes(random, work);
+            }
+            records::damage_tally(random, tally);
+        }
+        11 => {
+            let length = *random.pick(&[0, 1, 8128, PAIR_BYTES - 1]);
+            work.truncate(length);
+        }
+        _ => {}
+    }
+}
+
+/// A buffer of at least this length, but for a few that are short; filled with anything.
+fn lent_buffer(random: &mut Random, length: usize) -> Vec<u8> {
+    let length = match random.below(60) {
+        0 => length - 1,
+        1 => *random.pick(&[0, 1, length / 2]),
+        2..=20 => length + random.below(40),
+        _ => length,
+    };
+    let byte = random.byte();
+    let mut buffer = vec![byte; length];
+    for _ in 0..20.min(length) {
+        let at = random.below(length);
+        buffer[at] = random.byte();
+    }
+    buffer
+}
+
+/// Two run numbers: mostly of finished runs.
+fn two_runs(random: &mut Random, record: &Record) -> (u64, u64) {
+    let finished: Vec<u64> = (0..128).filter(|run| record.runs[*run as usize].end != 0).collect();
+    let begun = record.runs.iter().filter(|run| run.id != 0).count();
+    let number = |random: &mut Random| match random.below(12) {
+        0 => random.below(128) as u64,
+        1 => *random.pick(&[127, 128, 129, 255, 256, 65535]),
+        2 => random.below(begun + 1) as u64,
+        _ if finished.is_empty() => random.below(3) as u64,
+        _ => *random.pick(&finished),
+    };
+    let first = number(random);
+    if random.chance(1, 12) {
+        return (first, first);
+    }
+    (first, number(random))
+}
+
+/// A relation set, now and then above 63.
+fn any_set(random: &mut Random) -> u64 {
+    match random.below(20) {
+        0 => *random.pick(&[64, 65, 127, 128, 255]),
+        1 => 0,
+        2 => 63,
+        3..=8 => 1 << random.below(6),
+        _ => random.below(64) as u64,
+    }
+}
+
+/// The refusal of the rule file, if it has one.
+pub fn rule_refusal(case: &Case) -> Option<Refusal> {
+    read_rule(&case.rule).err()
+}

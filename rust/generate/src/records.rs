@@ -1,0 +1,110 @@
+//! Records, pair bytes and tallies with one field or more spoiled.
+//!
+//! Every value fits in 16 bits (ids and lines), 8 bits (label numbers, lengths,
+//! places) or 32 bits (tally counts), so that a record with narrower fields can hold it.
+
+use crate::random::Random;
+use reference::calls::Tally;
+use reference::record::Record;
+
+/// Changes one field, or swaps two entries. Some changes leave a real record.
+pub fn damage_record(random: &mut Random, record: &mut Record) {
+    let runs = record.runs.iter().filter(|run| run.id != 0).count();
+    let labels = record.labels.iter().filter(|label| label.length != 0).count();
+    // A used entry mostly, sometimes the first unused or any.
+    let entry = |random: &mut Random, used: usize, all: usize| match random.below(8) {
+        0 => random.below(all),
+        1 => used.min(all - 1),
+        _ => random.below(used.max(1)),
+    };
+    let run = entry(random, runs, record.runs.len());
+    let other_run = entry(random, runs, record.runs.len());
+    let label = entry(random, labels, record.labels.len());
+    let other_label = entry(random, labels, record.labels.len());
+    let near = |random: &mut Random, value: u64| match random.below(6) {
+        0 => 0,
+        1 => value + 1,
+        2 => value.saturating_sub(1),
+        3 => random.between(0, 257) as u64,
+        4 => (value + 256) % 65536,
+        _ => random.between(0, 65535) as u64,
+    };
+    match random.below(18) {
+        0 => record.runs[run].id = near(random, record.runs[run].id).min(65535),
+        1 => record.runs[run].id = record.runs[other_run].id,
+        2..=3 => record.runs[run].begin = near(random, record.runs[run].begin).min(65535),
+        4 => record.runs[run].begin = record.runs[other_run].begin,
+        5..=6 => record.runs[run].end = near(random, record.runs[run].end).min(65535),
+        7 => record.runs[run].end = record.runs[other_run].end,
+        8 => record.runs[run].label = near(random, record.runs[run].label) % 256,
+        9 => record.runs[run].label = random.between(0, labels + 1) as u64,
+        10 => record.labels[label].length = near(random, record.labels[label].length.into()) as u8,
+        11 => {
+            let length = usize::from(record.labels[label].length).clamp(1, 24);
+            let at = random.below(length);
+            record.labels[label].bytes[at] = *random.pick(&[b'A', b'Z', b'a', b' ', b'\n', 0, 255]);
+        }
+        12 => {
+            // A byte past the label's length.
+            let at = usize::from(record.labels[label].length).min(23);
+            record.labels[label].bytes[random.between(at, 23)] = *random.pick(&[b'A', 1, 255]);
+        }
+        13 => record.labels.swap(label, other_label),
+        14 => record.runs.swap(run, other_run),
+        15 => {
+            let place = random.below(128);
+            record.places[place] = *random.pick(&[0, 1, labels as u8, labels as u8 + 1, 64, 65, 255]);
+        }
+        16 => {
+            // A label moves to the next place, or two change places.
+            let taken: Vec<usize> = (0..128).filter(|place| record.places[*place] != 0).collect();
+            if let Some(place) = (!taken.is_empty()).then(|| *random.pick(&taken)) {
+                record.places.swap(place, (place + 1) % 128);
+            }
+        }
+        _ => record.lines = near(random, record.lines).min(65535),
+    }
+}
+
+/// Changes one pair byte, mostly one that two runs have.
+pub fn damage_pair_bytes(random: &mut Random, work: &mut [u8]) {
+    let limit = work.len().min(reference::PAIR_BYTES);
+    if limit == 0 {
+        return;
+    }
+    let at = match random.below(5) {
+        0 => random.below(limit),
+        1 => limit - 1,
+        2 => (129 * random.below(128)).min(limit - 1),
+        _ => {
+            let used: Vec<usize> = (0..limit).filter(|at| work[*at] != 0).collect();
+            if used.is_empty() { 1 } else { *random.pick(&used) }
+        }
+    };
+    let at = at.min(limit - 1);
+    work[at] = match random.below(3) {
+        0 => work[at] ^ 1,
+        1 => random.below(9) as u8,
+        _ => random.byte(),
+    };
+}
+
+/// Changes one count, or all.
+pub fn damage_tally(random: &mut Random, tally: &mut Tally) {
+    let change = |random: &mut Random, value: u64| match random.below(4) {
+        0 => value + 1,
+        1 => value.saturating_sub(1),
+        2 => 0,
+        _ => random.number() % (1 << 32),
+    };
+    match random.below(8) {
+        0 => tally.lines = change(random, tally.lines),
+        1 => tally.begun = change(random, tally.begun),
+        2 => tally.finished = change(random, tally.finished),
+        3 => tally.open = change(random, tally.open),
+        4 => tally.failing = tally.lines + 1,
+        5 => tally.failing = change(random, tally.failing),
+        6 => (tally.finished, tally.open) = (tally.open, tally.finished),
+        _ => *tally = Tally::default(),
+    }
+}

@@ -1,0 +1,57 @@
+//! The scene-log check, written from its paper: simple, slow and easy to read.
+//!
+//! Everything the check answers is a function of two things: the formula in the
+//! rule file and the list of lines accepted so far. So most modules here take
+//! one of these two and compute the answer afresh.
+//!
+//! - `line`: what one line says, and how lines are cut from a log (11, 12, 13).
+//! - `trace`: the accepted lines, what a new line meets there (15 to 19), and the runs.
+//! - `rule`: reading a rule file (1 to 10).
+//! - `formula`: the logic and its meaning over finished runs.
+//! - `relation`: the six relations, converse and composition (14).
+//! - `record`: the carried record and the pair bytes, and whether they are real (21).
+//! - `calls`: the calls, with their refusals in order and what they leave in each buffer.
+//! - `report`: the whole output of the check program.
+//! - `listing`: a rule file from a readable listing.
+
+pub mod calls;
+pub mod formula;
+pub mod line;
+pub mod listing;
+pub mod record;
+pub mod relation;
+pub mod report;
+pub mod rule;
+pub mod trace;
+
+/// A number on the paper's list of refusals, 1 to 24.
+pub type Refusal = u8;
+
+/// "At most 128 runs and 64 labels".
+pub const MAX_RUNS: usize = 128;
+pub const MAX_LABELS: usize = 64;
+
+/// "Labels are found through 128 places."
+pub const LABEL_PLACES: usize = 128;
+
+/// "A label is 1 to 24 bytes".
+pub const LABEL_LIMIT: usize = 24;
+
+/// "whose LF is not among its first 40 bytes".
+pub const LINE_LIMIT: usize = 40;
+
+/// "its first 16,384 bytes are pair bytes".
+pub const PAIR_BYTES: usize = MAX_RUNS * MAX_RUNS;
+
+/// "a verdict buffer of at least 256 bytes".
+pub const VERDICT_BYTES: usize = 256;
+
+/// "A label is 1 to 24 bytes from A to Z, 0 to 9 and underscore."
+pub fn is_label(bytes: &[u8]) -> bool {
+    (1..=LABEL_LIMIT).contains(&bytes.len()) && bytes.iter().all(|&byte| is_label_byte(byte))
+}
+
+/// A byte "from A to Z, 0 to 9 and underscore".
+pub fn is_label_byte(byte: u8) -> bool {
+    byte.is_ascii_uppercase() || byte.is_ascii_digit() || byte == b'_'
+}

@@ -1,0 +1,195 @@
+//! The six relations between different finished runs, converse and composition.
+//!
+//! "before 1, after 2, overlaps 4, overlapped by 8, includes 16, during 32; 2, 8
+//! and 32 are the converses of 1, 4 and 16. A set is a sum of these, 0 to 63".
+
+use crate::formula::{before, includes, overlaps, FinishedRun};
+use crate::trace::{accepted_lines, runs_of};
+use crate::Refusal;
+use std::sync::OnceLock;
+
+pub const BEFORE: u8 = 1;
+pub const AFTER: u8 = 2;
+pub const OVERLAPS: u8 = 4;
+pub const OVERLAPPED_BY: u8 = 8;
+pub const INCLUDES: u8 = 16;
+pub const DURING: u8 = 32;
+
+/// "Between two different finished runs one of six holds".
+pub fn relation_of(first: &FinishedRun, second: &FinishedRun) -> u8 {
+    let mut relation = 0;
+    for (holds, number) in [
+        (before(first, second), BEFORE),
+        (before(second, first), AFTER),
+        (overlaps(first, second), OVERLAPS),
+        (overlaps(second, first), OVERLAPPED_BY),
+        (includes(first, second), INCLUDES),
+        (includes(second, first), DURING),
+    ] {
+        if holds {
+            relation += number;
+        }
+    }
+    relation
+}
+
+/// The set of the members' converses, or 14. The paper names no such call; the
+/// refusal is that of the composing call.
+pub fn converse(set: u64) -> Result<u8, Refusal> {
+    let set = read_set(set)?;
+    let mut answer = 0;
+    for (relation, its_converse) in [(BEFORE, AFTER), (OVERLAPS, OVERLAPPED_BY), (INCLUDES, DURING)] {
+        if set & relation != 0 {
+            answer += its_converse;
+        }
+        if set & its_converse != 0 {
+            answer += relation;
+        }
+    }
+    Ok(answer)
+}
+
+/// Demand 3: a relation is in the answer exactly when some log has three runs
+/// "where a member of the first set relates the first run to the second, a member
+/// of the second set relates the second to the third, and the relation taken
+/// relates the first to the third". "Wherever a log shows this, an accepted log
+/// with three runs and no others shows it too", so those logs are enough.
+pub fn compose(first: u64, second: u64) -> Result<u8, Refusal> {
+    let (first, second) = (read_set(first)?, read_set(second)?);
+    // The runs of the 90 logs, read once.
+    static ALL: OnceLock<Vec<[FinishedRun; 3]>> = OnceLock::new();
+    let all = ALL.get_or_init(|| logs_of_three_runs().iter().map(|log| three_runs(log)).collect());
+    let mut answer = 0;
+    for [x, y, z] in all {
+        if first & relation_of(x, y) != 0 && second & relation_of(y, z) != 0 {
+            answer |= relation_of(x, z);
+        }
+    }
+    Ok(answer)
+}
+
+/// "14 a relation set above 63".
+fn read_set(set: u64) -> Result<u8, Refusal> {
+    if set > 63 {
+        return Err(14);
+    }
+    Ok(set as u8)
+}
+
+/// Every accepted log in which the ids 1, 2 and 3 begin and end: 90 of them.
+pub fn logs_of_three_runs() -> Vec<String> {
+    let mut finished_logs = Vec::new();
+    let mut unfinished_logs = vec![String::new()];
+    while let Some(log) = unfinished_logs.pop() {
+        let mut is_finished = true;
+        for id in 1..=3 {
+            let (begin, end) = (format!("B {id}\n"), format!("E {id}\n"));
+            if !log.contains(&begin) {
+                unfinished_logs.push(log.clone() + &begin);
+                is_finished = false;
+            } else if !log.contains(&end) {
+                unfinished_logs.push(log.clone() + &end);
+                is_finished = false;
+            }
+        }
+        if is_finished {
+            finished_logs.push(log);
+        }
+    }
+    finished_logs
+}
+
+/// The finished runs of the ids 1, 2 and 3, in this order.
+fn three_runs(log: &str) -> [FinishedRun<'static>; 3] {
+    let (accepted, _) = accepted_lines(log.as_bytes());
+    let runs = runs_of(&accepted);
+    [1, 2, 3].map(|id| {
+        let run = runs.iter().find(|run| run.id == id).expect("a run of the log");
+        FinishedRun { start: run.begin, finish: run.end.expect("a finished run"), label: None }
+    })
+}
+
+#[cfg(test)]
+mod tests {
+    use super::*;
+
+    #[test]
+    fn there_are_90_logs_of_three_runs_and_all_are_accepted() {
+        let logs = logs_of_three_runs();
+        assert_eq!(logs.len(), 90);
+        for log in &logs {
+            assert_eq!(accepted_lines(log.as_bytes()).1, None);
+            assert_eq!(logs.iter().filter(|other| *other == log).count(), 1);
+        }
+    }
+
+    #[test]
+    fn p2_to_p8() {
+        for (first, second, answer) in [
+            (BEFORE, BEFORE, 1),
+            (BEFORE, AFTER, 63),
+            (OVERLAPS, OVERLAPS, 5),
+            (BEFORE, DURING, 37),
+            (OVERLAPS, INCLUDES, 21),
+            (INCLUDES, DURING, 60),
+            (0, 63, 0),
+        ] {
+            assert_eq!(compose(first.into(), second.into()), Ok(answer), "{first} {second}");
+        }
+    }
+
+    #[test]
+    fn sets_at_the_edges() {
+        assert_eq!(compose(63, 63), Ok(63));
+        assert_eq!(compose(63, 0), Ok(0));
+        assert_eq!(compose(0, 0), Ok(0));
+        for (first, second) in [(64, 0), (0, 64), (64, 64), (255, 1), (256, 1), (1, 1 << 32)] {
+            assert_eq!(compose(first, second), Err(14));
+        }
+        assert_eq!(converse(63), Ok(63));
+        assert_eq!(converse(64), Err(14));
+    }
+
+    #[test]
+    fn converses() {
+        assert_eq!(converse(0), Ok(0));
+        for (relation, its_converse) in [(1, 2), (4, 8), (16, 32)] {
+            assert_eq!(converse(relation), Ok(its_converse as u8));
+            assert_eq!(converse(its_converse), Ok(relation as u8));
+        }
+        for set in 0..64 {
+            assert_eq!(converse(converse(set).unwrap().into()), Ok(set as u8));
+        }
+    }
+
+    #[test]
+    fn composition_adds_up_over_members_and_turns_round_under_converse() {
+        let table: Vec<u8> = (0..4096).map(|at| compose(at / 64, at % 64).unwrap()).collect();
+        let at = |first: usize, second: usize| table[64 * first + second];
+        let back = |set: u8| usize::from(converse(set.into()).unwrap());
+        for first in 0..64 {
+            for second in 0..64 {
+                let mut by_members = 0;
+                for one in (0..6).map(|bit| 1 << bit).filter(|bit| first & bit != 0) {
+                    for other in (0..6).map(|bit| 1 << bit).filter(|bit| second & bit != 0) {
+                        by_members |= at(one, other);
+                    }
+                }
+                assert_eq!(at(first, second), by_members);
+                assert_eq!(back(at(first, second)), usize::from(at(back(second as u8), back(first as u8))));
+            }
+        }
+    }
+
+    #[test]
+    fn between_two_runs_the_relation_turns_round_with_them() {
+        for log in logs_of_three_runs() {
+            let [x, y, z] = three_runs(&log);
+            for (a, b) in [(&x, &y), (&y, &z), (&x, &z)] {
+                let relation = relation_of(a, b);
+                assert_eq!(relation.count_ones(), 1);
+                assert_eq!(converse(relation.into()), Ok(relation_of(b, a)));
+            }
+        }
+    }
+}

@@ -1,0 +1,292 @@
+//! The calls: refusals in the paper's order, answers, and what each buffer holds after.
+
+use reference::calls::*;
+use reference::listing::rule_file;
+use reference::record::{pair_bytes, record_of, Record};
+use reference::trace::accepted_lines;
+use reference::{PAIR_BYTES, VERDICT_BYTES};
+
+/// No EVENING includes a TEST.
+fn p1() -> Vec<u8> {
+    rule_file("label EVENING\nlabel TEST\nhas 0 0\nhas 1 1\nand 0 1\nincludes 0 1\nand 2 3\nsome 1 4\nsome 0 5\nnot 6\n")
+        .unwrap()
+}
+
+const P1_LOG: &str = "B 7 EVENING\nB 9 TEST\nE 9\nE 7\n";
+
+fn record_after(log: &str) -> Record {
+    let (accepted, refusal) = accepted_lines(log.as_bytes());
+    assert_eq!(refusal, None);
+    record_of(&accepted)
+}
+
+/// A work area with a few bytes more than needed, which no call may change.
+fn work_after(log: &str) -> Vec<u8> {
+    let mut work = pair_bytes(&record_after(log));
+    work.extend([0xA5; 7]);
+    work
+}
+
+fn tally(counts: [u64; 5]) -> Tally {
+    let [lines, begun, finished, open, failing] = counts;
+    Tally { lines, begun, finished, open, failing }
+}
+
+#[test]
+fn starting_a_record_clears_the_pair_bytes_and_no_byte_after_them() {
+    let mut work = vec![0xA5; PAIR_BYTES + 3];
+    assert_eq!(start_record(&mut work), Ok(Record::of_no_lines()));
+    assert_eq!(work[..PAIR_BYTES], [0; PAIR_BYTES]);
+    assert_eq!(work[PAIR_BYTES..], [0xA5; 3]);
+    let mut short = vec![0xA5; PAIR_BYTES - 1];
+    assert_eq!(start_record(&mut short), Err(20));
+    assert_eq!(short, vec![0xA5; PAIR_BYTES - 1]);
+    assert_eq!(start_record(&mut []), Err(20));
+}
+
+#[test]
+fn the_single_line_calls_follow_p1() {
+    let mut work = vec![0xA5; PAIR_BYTES + 3];
+    let mut record = start_record(&mut work).unwrap();
+    let mut counts = Tally::default();
+    let mut so_far = String::new();
+    for (line, holds, byte, expected) in [
+        ("B 7 EVENING\n", true, 0, [1, 1, 0, 1, 0]),
+        ("B 9 TEST\n", true, 1, [2, 2, 0, 2, 0]),
+        ("E 9\n", true, 4, [3, 2, 1, 1, 0]),
+        ("E 7\n", false, 7, [4, 2, 2, 0, 1]),
+    ] {
+        let mut other_work = work.clone();
+        let without = check_line(&p1(), &record, &mut other_work, line.as_bytes());
+        let with = check_line_with_tally(&p1(), &record, &mut work, &mut counts, line.as_bytes());
+        so_far += line;
+        assert_eq!(without, with);
+        assert_eq!(other_work, work);
+        assert_eq!(with.verdict, Ok(holds));
+        assert_eq!(with.record, record_after(&so_far));
+        assert_eq!(work[..PAIR_BYTES], pair_bytes(&with.record));
+        assert_eq!(work[1], byte);
+        assert_eq!(work[PAIR_BYTES..], [0xA5; 3]);
+        assert_eq!(counts, tally(expected));
+        record = with.record;
+    }
+}
+
+#[test]
+fn the_whole_log_call_follows_p1() {
+    let mut work = vec![0xA5; PAIR_BYTES + 3];
+    let mut verdicts = vec![9; VERDICT_BYTES + 3];
+    let answer = check_log(&p1(), P1_LOG.as_bytes(), &mut work, &mut verdicts);
+    assert_eq!(answer, LogAnswer { record: record_after(P1_LOG), refusal: None });
+    assert_eq!(verdicts[..4], [1, 1, 1, 0]);
+    assert!(verdicts[4..].iter().all(|byte| *byte == 9));
+    assert_eq!(work[..PAIR_BYTES], pair_bytes(&answer.record));
+    assert_eq!(work[PAIR_BYTES..], [0xA5; 3]);
+}
+
+#[test]
+fn a_log_refused_at_a_line_keeps_what_came_before_it() {
+    let mut work = vec![0xA5; PAIR_BYTES];
+    let mut verdicts = vec![9; VERDICT_BYTES];
+    let log = "B 7 EVENING\nB 9 TEST\nE 9\nB 7\nE 7\n";
+    let answer = check_log(&p1(), log.as_bytes(), &mut work, &mut verdicts);
+    let before = record_after("B 7 EVENING\nB 9 TEST\nE 9\n");
+    assert_eq!(answer.refusal, Some((15, 4)));
+    assert_eq!(work, pair_bytes(&before));
+    assert_eq!(answer.record, before);
+    assert_eq!(verdicts[..4], [1, 1, 1, 9]);
+}
+
+#[test]
+fn the_whole_log_call_starts_a_record_itself() {
+    for (log, refusal) in [("", None), ("E 1\n", Some((16, 1))), ("B 1", Some((11, 1)))] {
+        let mut work = vec![0xA5; PAIR_BYTES + 3];
+        let mut verdicts = vec![9; VERDICT_BYTES];
+        let answer = check_log(&p1(), log.as_bytes(), &mut work, &mut verdicts);
+        assert_eq!(answer, LogAnswer { record: Record::of_no_lines(), refusal });
+        assert_eq!(work[..PAIR_BYTES], [0; PAIR_BYTES]);
+        assert_eq!(work[PAIR_BYTES..], [0xA5; 3]);
+        assert_eq!(verdicts, [9; VERDICT_BYTES]);
+    }
+}
+
+#[test]
+fn the_whole_log_call_refused_for_20_or_the_rule_touches_no_buffer() {
+    for (rule, work_length, verdict_length, number) in [
+        (p1(), PAIR_BYTES - 1, VERDICT_BYTES, 20),
+        (p1(), PAIR_BYTES, VERDICT_BYTES - 1, 20),
+        (vec![], PAIR_BYTES, VERDICT_BYTES - 1, 20),
+        (vec![], 0, 0, 20),
+        (vec![], PAIR_BYTES, VERDICT_BYTES, 1),
+        (b"RUX".to_vec(), PAIR_BYTES, VERDICT_BYTES, 2),
+    ] {
+        let mut work = vec![0xA5; work_length];
+        let mut verdicts = vec![9; verdict_length];
+        let answer = check_log(&rule, b"E 1\n", &mut work, &mut verdicts);
+        assert_eq!(answer, LogAnswer { record: Record::of_no_lines(), refusal: Some((number, 0)) });
+        assert_eq!(work, vec![0xA5; work_length]);
+        assert_eq!(verdicts, vec![9; verdict_length]);
+    }
+}
+
+/// The refusal of the single-line call with a tally; record, work area and tally must
+/// come back the same.
+fn refusal(rule: &[u8], record: &Record, work: &[u8], counts: Tally, line: &str) -> Option<u8> {
+    let (mut work_after, mut tally_after) = (work.to_vec(), counts);
+    let answer = check_line_with_tally(rule, record, &mut work_after, &mut tally_after, line.as_bytes());
+    let number = answer.verdict.err();
+    if number.is_some() {
+        assert_eq!((&answer.record, work_after.as_slice(), tally_after), (record, work, counts));
+    }
+    // Without a tally the answer is the same, but for 24.
+    let mut work_after = work.to_vec();
+    let without = check_line(rule, record, &mut work_after, line.as_bytes());
+    if number != Some(24) {
+        assert_eq!(without, answer);
+    } else {
+        assert_ne!(without.verdict, Err(24));
+    }
+    number
+}
+
+#[test]
+fn the_order_of_refusals_of_the_single_line_call() {
+    let sound = record_after("B 7 EVENING\n");
+    let mut spoiled = sound.clone();
+    spoiled.lines = 2;
+    let work = work_after("B 7 EVENING\n");
+    let mut wrong_work = work.clone();
+    wrong_work[5] = 1;
+    let right = tally([1, 1, 0, 1, 0]);
+    let wrong = tally([2, 1, 0, 1, 0]);
+    assert_eq!(refusal(&[], &spoiled, &work[..PAIR_BYTES - 1], wrong, "X\n"), Some(20));
+    assert_eq!(refusal(&[], &spoiled, &wrong_work, wrong, "X\n"), Some(1));
+    assert_eq!(refusal(b"RULX", &spoiled, &wrong_work, wrong, "X\n"), Some(1));
+    assert_eq!(refusal(b"RULXX", &spoiled, &wrong_work, wrong, "X\n"), Some(3));
+    assert_eq!(refusal(&p1(), &spoiled, &wrong_work, wrong, "X\n"), Some(21));
+    assert_eq!(refusal(&p1(), &spoiled, &work, wrong, "X\n"), Some(21));
+    assert_eq!(refusal(&p1(), &sound, &wrong_work, wrong, "X\n"), Some(21));
+    assert_eq!(refusal(&p1(), &sound, &work, wrong, "X\n"), Some(24));
+    assert_eq!(refusal(&p1(), &sound, &work, right, "X\n"), Some(11));
+    assert_eq!(refusal(&p1(), &sound, &work, right, "B 70000 x\n"), Some(12));
+    assert_eq!(refusal(&p1(), &sound, &work, right, "B 7 x\n"), Some(13));
+    assert_eq!(refusal(&p1(), &sound, &work, right, "B 7 X\n"), Some(15));
+    assert_eq!(refusal(&p1(), &sound, &work, right, "E 8\n"), Some(16));
+    assert_eq!(refusal(&p1(), &sound, &work, right, "E 7\n"), None);
+}
+
+#[test]
+fn every_pair_byte_must_be_the_records() {
+    let record = record_after(P1_LOG);
+    let counts = tally([4, 2, 2, 0, 1]);
+    for at in [0, 1, 2, 127, 128, 129, 16383] {
+        let mut work = work_after(P1_LOG);
+        work[at] ^= 1;
+        assert_eq!(refusal(&p1(), &record, &work, counts, "B 1\n"), Some(21), "{at}");
+    }
+    let mut work = work_after(P1_LOG);
+    work[PAIR_BYTES] ^= 1;
+    assert_eq!(refusal(&p1(), &record, &work, counts, "B 1\n"), None);
+}
+
+#[test]
+fn a_tally_that_is_not_the_records() {
+    let log = "B 7 EVENING\nB 9 TEST\nE 9\n";
+    let (record, work) = (record_after(log), work_after(log));
+    for (counts, number) in [
+        ([3, 2, 1, 1, 0], None),
+        ([3, 2, 1, 1, 3], None),
+        ([3, 2, 1, 1, 4], Some(24)),
+        ([3, 2, 1, 1, u64::MAX], Some(24)),
+        ([4, 2, 1, 1, 0], Some(24)),
+        ([3, 3, 1, 1, 0], Some(24)),
+        ([3, 2, 2, 1, 0], Some(24)),
+        ([3, 2, 1, 2, 0], Some(24)),
+        ([0, 0, 0, 0, 0], Some(24)),
+    ] {
+        assert_eq!(refusal(&p1(), &record, &work, tally(counts), "E 7\n"), number, "{counts:?}");
+    }
+}
+
+#[test]
+fn failing_lines_rise_by_one_exactly_at_a_line_that_fails() {
+    let record = record_after(P1_LOG);
+    let mut work = work_after(P1_LOG);
+    let mut counts = tally([4, 2, 2, 0, 3]);
+    // The rule still fails; the 3 handed in is kept.
+    let answer = check_line_with_tally(&p1(), &record, &mut work, &mut counts, b"B 1\n");
+    assert_eq!(answer.verdict, Ok(false));
+    assert_eq!(counts, tally([5, 3, 2, 1, 4]));
+}
+
+#[test]
+fn a_refused_begin_line_leaves_nothing_behind() {
+    let mut work = vec![0; PAIR_BYTES];
+    let mut record = start_record(&mut work).unwrap();
+    for (line, number) in [("B 1 A\n", None), ("B 1 NEW\n", Some(15)), ("B 2 bad\n", Some(13)), ("B 2 B\n", None)] {
+        let answer = check_line(&p1(), &record, &mut work, line.as_bytes());
+        assert_eq!(answer.verdict.err(), number);
+        record = answer.record;
+    }
+    assert_eq!(record, record_after("B 1 A\nB 2 B\n"));
+}
+
+#[test]
+fn runs_and_labels_at_the_edges() {
+    let mut log: String = (1..=128).map(|id| format!("B {id} L{}\n", id % 64)).collect();
+    let counts = tally([128, 128, 0, 128, 0]);
+    let (record, work) = (record_after(&log), work_after(&log));
+    assert_eq!(refusal(&p1(), &record, &work, counts, "B 129 NEW\n"), Some(18));
+    assert_eq!(refusal(&p1(), &record, &work, counts, "B 128 NEW\n"), Some(15));
+    assert_eq!(refusal(&p1(), &record, &work, counts, "E 128\n"), None);
+    for id in 1..=128 {
+        log += &format!("E {id}\n");
+    }
+    let (record, work) = (record_after(&log), work_after(&log));
+    let counts = tally([256, 128, 128, 0, 0]);
+    assert_eq!(refusal(&p1(), &record, &work, counts, "E 128\n"), Some(17));
+    assert_eq!(refusal(&p1(), &record, &work, counts, "E 129\n"), Some(16));
+    let log: String = (1..=64).map(|id| format!("B {id} L{id}\n")).collect();
+    let (record, work) = (record_after(&log), work_after(&log));
+    let counts = tally([64, 64, 0, 64, 0]);
+    assert_eq!(refusal(&p1(), &record, &work, counts, "B 65 NEW\n"), Some(19));
+    assert_eq!(refusal(&p1(), &record, &work, counts, "B 65 L1\n"), None);
+    assert_eq!(refusal(&p1(), &record, &work, counts, "B 65\n"), None);
+}
+
+#[test]
+fn relating_two_runs() {
+    // Runs: 0 before 1, 1 overlaps 2, 2 includes 3, 4 open.
+    let log = "B 1\nE 1\nB 2\nB 3\nE 2\nB 4\nE 4\nE 3\nB 5\n";
+    let record = record_after(log);
+    for (first, second, relation) in [
+        (0, 1, 1), (1, 0, 2), (0, 2, 1), (0, 3, 1), (1, 2, 4), (2, 1, 8), (1, 3, 1), (3, 1, 2), (2, 3, 16), (3, 2, 32),
+    ] {
+        assert_eq!(relation_between(&record, first, second), Ok(relation), "{first} {second}");
+    }
+    for (first, second) in [(0, 4), (4, 0), (4, 4), (5, 5), (0, 5), (0, 127), (0, 128), (128, 128), (u64::MAX, 0)] {
+        assert_eq!(relation_between(&record, first, second), Err(22), "{first} {second}");
+    }
+    assert_eq!(relation_between(&record, 3, 3), Err(23));
+    let mut spoiled = record.clone();
+    spoiled.lines += 1;
+    assert_eq!(relation_between(&spoiled, 3, 3), Err(21));
+    assert_eq!(relation_between(&spoiled, 9, 9), Err(21));
+}
+
+#[test]
+fn every_relation_that_a_longer_log_shows_is_in_the_composition() {
+    // Nested and side by side runs in a log of eight; all triples of different runs.
+    let log = "B 1\nB 2\nE 1\nB 3\nB 4\nE 4\nE 2\nB 5\nE 3\nB 6\nB 7\nE 7\nE 5\nE 6\nB 8\nE 8\n";
+    let record = record_after(log);
+    for x in 0..8 {
+        for y in (0..8).filter(|y| *y != x) {
+            for z in (0..8).filter(|z| *z != x && *z != y) {
+                let first = relation_between(&record, x, y).unwrap();
+                let second = relation_between(&record, y, z).unwrap();
+                let third = relation_between(&record, x, z).unwrap();
+                assert_ne!(compose(first.into(), second.into()).unwrap() & third, 0);
+            }
+        }
+    }
+}

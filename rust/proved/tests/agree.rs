@@ -1,0 +1,315 @@
+//! The proved library, the check program and the reference agree on everything that is generated.
+//!
+//! Every case goes to the library. A part of the cases goes to the program too, since starting one takes a while.
+
+use generate::random::Random;
+use generate::{case, Case};
+use reference::calls::{check_log, LogAnswer};
+use reference::report::report;
+use std::collections::BTreeMap;
+use std::fs;
+use std::io::{Read, Write};
+use std::path::{Path, PathBuf};
+use std::process::{Command, Stdio};
+
+const CASES: u64 = 24_000;
+const PROGRAM_EVERY: u64 = 12;
+
+/// The numbers that the program can print.
+const PRINTED: [u8; 18] = [1, 2, 3, 4, 5, 6, 7, 8, 9, 10, 11, 12, 13, 15, 16, 17, 18, 19];
+
+/// The seed, the rule and the log of a case, to repeat it by hand.
+fn described(case: &Case) -> String {
+    let rule: String = case.rule.iter().map(|byte| format!("{byte:02x}")).collect();
+    format!("seed {} ({})\nrule {rule}\nlog {}", case.seed, case.kind, case.log.escape_ascii())
+}
+
+/// What the whole-log call answers, and what it leaves in its buffers.
+#[derive(PartialEq, Debug)]
+struct LogLeft {
+    lines: u64,
+    refusal: Option<(u8, u64)>,
+    work: Vec<u8>,
+    verdicts: Vec<u8>,
+}
+
+fn left_by_reference(case: &Case) -> LogLeft {
+    let (mut work, mut verdicts) = (case.log_work.clone(), case.verdicts.clone());
+    let LogAnswer { record, refusal } = check_log(&case.rule, &case.log, &mut work, &mut verdicts);
+    LogLeft { lines: record.lines, refusal, work, verdicts }
+}
+
+fn left_by_library(case: &Case) -> LogLeft {
+    let (mut work, mut verdicts) = (case.log_work.clone(), case.verdicts.clone());
+    let answer = proved::check_log(&case.rule, &case.log, &mut work, &mut verdicts);
+    let refusal = answer.refusal.map(|number| (number, u64::from(answer.refused_line().unwrap())));
+    LogLeft { lines: answer.lines.into(), refusal, work, verdicts }
+}
+
+/// What the report call answers, and what it leaves in its buffers.
+#[derive(PartialEq, Debug)]
+struct ReportLeft {
+    length: Option<usize>,
+    work: Vec<u8>,
+    verdicts: Vec<u8>,
+    text: Vec<u8>,
+}
+
+/// A text buffer, now and then too short; filled with anything.
+fn text_buffer(random: &mut Random) -> Vec<u8> {
+    let length = match random.below(40) {
+        0 => *random.pick(&[0, 1, 1024, proved::TEXT_BYTES - 1]),
+        1..=10 => proved::TEXT_BYTES + random.below(100),
+        _ => proved::TEXT_BYTES,
+    };
+    vec![random.byte(); length]
+}
+
+/// The reference has no report call of its own: what it leaves follows from its report and its whole-log call.
+fn expected_report(case: &Case, text: &[u8], printed: &[u8], log: &LogLeft) -> ReportLeft {
+    let is_short = log.refusal == Some((20, 0)) || text.len() < proved::TEXT_BYTES;
+    if is_short {
+        let (work, verdicts) = (case.log_work.clone(), case.verdicts.clone());
+        return ReportLeft { length: None, work, verdicts, text: text.to_vec() };
+    }
+    let mut text = text.to_vec();
+    text[..printed.len()].copy_from_slice(printed);
+    ReportLeft { length: Some(printed.len()), work: log.work.clone(), verdicts: log.verdicts.clone(), text }
+}
+
+fn report_by_library(case: &Case, text: &[u8]) -> ReportLeft {
+    let (mut work, mut verdicts, mut text) = (case.log_work.clone(), case.verdicts.clone(), text.to_vec());
+    let length = proved::report(&case.rule, &case.log, &mut work, &mut verdicts, &mut text);
+    ReportLeft { length, work, verdicts, text }
+}
+
+/// The check program, built by `rt check log_check`.
+fn program() -> PathBuf {
+    let path = Path::new(env!("CARGO_MANIFEST_DIR")).join("../../target/bin/log_check");
+    assert!(path.is_file(), "target/bin/log_check is missing: run `rt check log_check` in the folder above rust/");
+    path
+}
+
+/// A folder of this test's own, empty.
+fn empty_folder(name: &str) -> PathBuf {
+    let folder = std::env::temp_dir().join(format!("scene_log_{name}_{}", std::process::id()));
+    let _ = fs::remove_dir_all(&folder);
+    fs::create_dir_all(&folder).unwrap();
+    folder
+}
+
+/// What the program prints in this folder, with the log handed over in pieces of this length.
+fn printed_by_program(folder: &Path, log: &[u8], piece: usize) -> Vec<u8> {
+    let mut child = Command::new(program())
+        .args(["ignored", "words"])
+        .current_dir(folder)
+        .stdin(Stdio::piped())
+        .stdout(Stdio::piped())
+        .spawn()
+        .unwrap();
+    let mut input = child.stdin.take().unwrap();
+    for part in log.chunks(piece.max(1)) {
+        // The program reads no more than decides every answer, so the rest may find no reader.
+        if input.write_all(part).is_err() {
+            break;
+        }
+    }
+    drop(input);
+    let mut output = Vec::new();
+    child.stdout.take().unwrap().read_to_end(&mut output).unwrap();
+    assert!(child.wait().unwrap().success());
+    output
+}
+
+/// The refusal in a report, if there is one.
+fn printed_refusal(report: &[u8]) -> Option<u8> {
+    let text = std::str::from_utf8(report).unwrap();
+    text.lines().find_map(|line| line.split_once(" R")).map(|(_, number)| number.parse().unwrap())
+}
+
+#[test]
+fn library_program_and_reference_agree_on_generated_cases() {
+    let folder = empty_folder("agree");
+    let (mut answered, mut printed_numbers): (BTreeMap<u8, u64>, BTreeMap<u8, u64>) = Default::default();
+    // How often each kind of log was read, and how many logs were full.
+    let mut kinds: BTreeMap<&str, u64> = BTreeMap::new();
+    let (mut runs_of_program, mut full) = (0, 0);
+    for seed in 0..CASES {
+        let case = case(seed);
+        let random = &mut Random::new(!seed);
+        let log = left_by_reference(&case);
+        assert!(left_by_library(&case) == log, "the whole-log calls differ on {}", described(&case));
+        let printed = report(&case.rule, &case.log);
+        let text = text_buffer(random);
+        let expected = expected_report(&case, &text, &printed, &log);
+        assert!(report_by_library(&case, &text) == expected, "the reports differ on {}", described(&case));
+        if seed % PROGRAM_EVERY == 0 {
+            fs::write(folder.join("rule.rul"), &case.rule).unwrap();
+            let piece = *random.pick(&[1, 7, 100, 4096, 10_000]);
+            let output = printed_by_program(&folder, &case.log, piece.max(case.log.len() / 300));
+            assert!(output == printed, "the program and the reference differ on {}", described(&case));
+            runs_of_program += 1;
+            if let Some(number) = printed_refusal(&output) {
+                *printed_numbers.entry(number).or_default() += 1;
+            }
+        }
+        if !matches!(log.refusal, Some((_, 0))) {
+            *kinds.entry(case.kind).or_default() += 1;
+            full += u64::from(log.lines == 256);
+        }
+        let refusals = [log.refusal.map(|(number, _)| number), (expected.length.is_none()).then_some(20)];
+        for number in refusals.into_iter().flatten() {
+            *answered.entry(number).or_default() += 1;
+        }
+    }
+    fs::remove_dir_all(&folder).unwrap();
+    println!("{CASES} cases, {runs_of_program} runs of the program");
+    println!("answered {answered:?}\nprinted {printed_numbers:?}\nread {kinds:?}, {full} of 256 lines");
+    let with_20: Vec<u8> = PRINTED.into_iter().chain([20]).collect();
+    assert_eq!(answered.into_keys().collect::<Vec<u8>>(), with_20);
+    assert_eq!(printed_numbers.into_keys().collect::<Vec<u8>>(), PRINTED);
+    for kind in ["no bytes", "short", "middling", "128 runs", "64 labels", "labels with one first place", "random bytes"] {
+        assert!(kinds[kind] >= 100, "{kind}");
+    }
+    assert!(full >= 100);
+}
+
+#[test]
+fn library_and_reference_agree_on_all_sets_of_relations() {
+    let above = [64, 65, 127, 128, 255, 256, 257, 319, 320, 65536, 1 << 31, u32::MAX];
+    let sets: Vec<u32> = (0..64).chain(above).collect();
+    for &first in &sets {
+        assert_eq!(proved::converse(first), reference::calls::converse(first.into()), "{first}");
+        for &second in &sets {
+            let expected = reference::calls::compose(first.into(), second.into());
+            assert_eq!(proved::compose(first, second), expected, "{first} {second}");
+        }
+    }
+    assert_eq!(proved::compose(64, 0), Err(14));
+    assert_eq!(proved::converse(256), Err(14));
+}
+
+#[test]
+fn library_and_reference_agree_on_hashes() {
+    let random = &mut Random::new(1);
+    for _ in 0..20_000 {
+        let length = random.below(40);
+        let bytes = random.bytes(length);
+        assert_eq!(proved::fnv1a(&bytes), reference::record::fnv1a(&bytes), "{bytes:?}");
+    }
+}
+
+/// A log of this many finished runs with labels from the list, which lie in any order to each other.
+fn full_log(random: &mut Random, labels: &[Vec<u8>], runs: usize) -> Vec<u8> {
+    let mut log = Vec::new();
+    let mut open: Vec<usize> = Vec::new();
+    let mut begun = 0;
+    while begun < runs || !open.is_empty() {
+        if begun < runs && (open.is_empty() || random.chance(2, 3)) {
+            begun += 1;
+            open.push(begun);
+            log.extend(format!("B {begun}").bytes());
+            if random.chance(9, 10) {
+                log.push(b' ');
+                log.extend(random.pick(labels).clone());
+            }
+            log.push(b'\n');
+        } else {
+            let at = random.below(open.len());
+            log.extend(format!("E {}\n", open.remove(at)).bytes());
+        }
+    }
+    log
+}
+
+/// The properties of the paper have up to four nested "some", so a log with one label is slow to judge and one with all is not.
+#[test]
+fn library_and_reference_agree_on_the_properties_of_the_paper() {
+    let examples = Path::new(env!("CARGO_MANIFEST_DIR")).join("../../examples");
+    let random = &mut Random::new(2);
+    for name in ["property_1", "property_2", "property_3", "property_4", "rover_1", "rover_2", "rover_3", "rover_4"] {
+        let rule = fs::read(examples.join(format!("{name}_kept/rule.rul"))).unwrap();
+        let mut labels = reference::rule::read_rule(&rule).unwrap().labels;
+        labels.push(b"OTHER".to_vec());
+        for (all, runs) in [(true, 128), (true, 128), (true, 40), (true, 12), (false, 40), (false, 12)] {
+            let listed = if all { &labels } else { &labels[labels.len() - 1..] };
+            let log = full_log(random, listed, runs);
+            let (mut work, mut verdicts, mut text) = ([0; 16384], [0; 256], [0; 2048]);
+            let length = proved::report(&rule, &log, &mut work, &mut verdicts, &mut text).unwrap();
+            assert!(text[..length] == report(&rule, &log), "{name}, log {}", log.escape_ascii());
+        }
+    }
+}
+
+/// P1's rule and log.
+fn p1() -> (Vec<u8>, Vec<u8>) {
+    let folder = Path::new(env!("CARGO_MANIFEST_DIR")).join("../../examples/p1");
+    (fs::read(folder.join("rule.rul")).unwrap(), fs::read(folder.join("log")).unwrap())
+}
+
+#[test]
+fn a_rule_file_that_cannot_be_opened_counts_as_no_bytes() {
+    let folder = empty_folder("no_rule");
+    let (_, log) = p1();
+    assert_eq!(printed_by_program(&folder, &log, 100), b"0 R1\n");
+    // A folder in its place can be opened, and reading it fails.
+    fs::create_dir(folder.join("rule.rul")).unwrap();
+    assert_eq!(printed_by_program(&folder, &log, 100), b"0 R1\n");
+    fs::remove_dir_all(&folder).unwrap();
+}
+
+#[test]
+fn a_rule_file_above_599_bytes_is_seen_to_be_too_long() {
+    let folder = empty_folder("long_rule");
+    let (_, log) = p1();
+    let longest = generate::rules::longest_rule(&mut Random::new(3)).to_bytes();
+    assert_eq!(longest.len(), 599);
+    for (more, is_taken) in [(0, true), (1, false), (2, false), (5000, false)] {
+        let file = [longest.clone(), vec![0; more]].concat();
+        fs::write(folder.join("rule.rul"), &file).unwrap();
+        let output = printed_by_program(&folder, &log, 100);
+        assert_eq!(output, report(&file, &log), "{more} bytes more");
+        assert_eq!(output != b"0 R7\n", is_taken, "{more} bytes more");
+    }
+    fs::remove_dir_all(&folder).unwrap();
+}
+
+#[test]
+fn the_program_reads_a_log_in_any_number_of_pieces() {
+    let folder = empty_folder("pieces");
+    let (rule, _) = p1();
+    fs::write(folder.join("rule.rul"), &rule).unwrap();
+    // The longest log of accepted lines, and one that goes far past what decides every answer.
+    let begins: String = (0..128).map(|n| format!("B {} {}\n", 65000 + n, "A".repeat(24))).collect();
+    let ends: String = (0..128).map(|n| format!("E {}\n", 65000 + n)).collect();
+    let longest = (begins + &ends).into_bytes();
+    let endless = [longest.clone(), b"B 1\n".repeat(200_000)].concat();
+    for log in [&longest, &endless] {
+        for piece in [1, 40, 4096, 8191, 8192, 8193, log.len()] {
+            if log.len() / piece > 10_000 {
+                continue;
+            }
+            assert!(printed_by_program(&folder, log, piece) == report(&rule, log), "{} bytes by {piece}", log.len());
+        }
+    }
+    fs::remove_dir_all(&folder).unwrap();
+}
+
+#[test]
+fn the_lessons_hold_for_library_and_program() {
+    let examples = Path::new(env!("CARGO_MANIFEST_DIR")).join("../../examples");
+    let mut lessons = 0;
+    for entry in fs::read_dir(examples).unwrap() {
+        let folder = entry.unwrap().path();
+        if !folder.is_dir() {
+            continue;
+        }
+        let read = |name: &str| fs::read(folder.join(name)).unwrap();
+        let (mut work, mut verdicts, mut text) = ([7; 16384], [7; 256], [7; 2048]);
+        let length = proved::report(&read("rule.rul"), &read("log"), &mut work, &mut verdicts, &mut text).unwrap();
+        assert!(text[..length] == read("expected"), "{}", folder.display());
+        assert!(printed_by_program(&folder, &read("log"), 5) == read("expected"), "{}", folder.display());
+        lessons += 1;
+    }
+    assert!(lessons >= 29);
+}

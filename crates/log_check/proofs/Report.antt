@@ -1,0 +1,45 @@
+-- With buffers that are long enough the report is not refused, and its text stands at the start of the buffer.
+use Prim.Native.Nat.{ℕ, _+_, _<_, _≤_}
+use mathlib.Core.Path.{_≡_, refl, ap, sym, subst, _∙_}
+use mathlib.Core.Bool.{Bool, true, false, cond}
+use mathlib.Core.List.{List, _++_}
+use native.Mathlib.Omega.{arith}
+use lib.ListN.{length, take, drop, length-append}
+use lib.Seq.{length-take-le, take-append-seam}
+use borrow.Author.Tests.{le-ltb}
+use Rattle.monitor.specs.Log.{logOf}
+use Rattle.report.specs.declared.Reported.{Reported}
+use Rattle.report.specs.declared.Reported.the-variants.{Length, Refused}
+use Rattle.report.specs.Text.{reportText}
+use Rattle.report.specs.Report.{Result, reportOf, Reports}
+use Rattle.log_check.specs.Printed.{Printed}
+
+-- the length that an answer names
+abbrev lengthOf : Reported → ℕ
+lengthOf (Length n) = n
+lengthOf (Refused c) = 0
+
+module _ (file log w out text : List ℕ) (long : 16384 ≤ length w) (room : 256 ≤ length out) (space : 2048 ≤ length text) where
+  abbrev R : List ℕ
+  R = reportText file log
+
+  written : reportOf file log w out text ≡ (Length (length R), logOf file log w out .1, logOf file log w out .2, R ++ drop (length R) text)
+  unfolding reportOf
+  written = simp (le-ltb (length w) 16384 long, le-ltb (length out) 256 room, le-ltb (length text) 2048 space)
+
+  module _ (a : Reported) (w′ out′ text′ : List ℕ) (r : Reports file log w out text a w′ out′ text′) where
+    all : _≡_ {A = Result} (a, w′, out′, text′) (Length (length R), logOf file log w out .1, logOf file log w out .2, R ++ drop (length R) text)
+    all = r .answer ∙ written
+
+    pub prints : (n : ℕ) → a ≡ Length n → Printed file log text′ n
+    prints n e =
+        let k : n ≡ length R = sym (ap lengthOf e) ∙ ap (λ (z : Result). lengthOf (z .0)) all in
+        let t : text′ ≡ R ++ drop (length R) text = ap (λ (z : Result). z .3) all in
+        let h : n ≤ length text′ = simp (t, k, length-append) (omega arith) in
+        let b : take n text′ ≡ R = simp (t, k) (take-append-seam R (drop (length R) text)) in
+        record { counts = (h, sym (length-take-le n text′ h)); bytes = b }
+
+    pub not-refused : (c : ℕ) → a ≡ Refused c → (n : ℕ) → Printed file log text′ n
+    not-refused c e n =
+        let q : Refused c ≡ Length (length R) = sym e ∙ ap (λ (z : Result). z .0) all in
+        absurd (let z : _≡_ {A = ℕ} 0 1 = cc in omega arith)

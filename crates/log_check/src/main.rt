@@ -12,9 +12,10 @@ use report::Reported;
 // One byte more than the longest rule file, so that a longer one is seen to be too long.
 const RULE_ROOM: usize = 600;
 
-// The bytes of a log that decide every answer.
+// The first bytes of a log, which decide every answer: `first-bytes-decide` of the crate `monitor`.
 const LOG_ROOM: usize = 8192;
 
+// The buffers that the report asks for.
 const PAIR_BYTES: usize = 16384;
 
 const VERDICT_BYTES: usize = 256;

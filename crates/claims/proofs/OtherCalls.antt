@@ -1,15 +1,15 @@
 -- Demand 1 of the calls that take no line: starting a record, relating two runs, and sets of relations.
-use Prim.Native.Nat.{ℕ, _<_}
+use Prim.Native.Nat.{ℕ, _≤_, _<_}
 use mathlib.Core.Path.{_≡_, refl, ap, sym, _∙_, subst}
 use mathlib.Core.Logic.{_↔_}
 use mathlib.Core.List.{List}
-use mathlib.Core.Bool.{Bool, true, false, _&&_, cond}
+use mathlib.Core.Bool.{Bool, true, false, _&&_, _||_, cond}
 use native.Mathlib.Omega.{arith}
 use lib.ListN.{length, take, drop}
-use lib.Dec.{eqb}
+use lib.Dec.{eqb, ltb}
 use borrow.Author.Tests.{lt-ltb, le-ltb, le-leb, lt-leb}
 use Rattle.lists.specs.Lists.{has?}
-use Rattle.lists.proofs.Cases.{either-lt, either-bool}
+use Rattle.lists.proofs.Cases.{either-lt, either-bool, no-both}
 use Rattle.lines.specs.Event.{Event, begins, ends, faulty}
 use Rattle.lines.specs.Line.{eventOf, parsedAs, parsedOf}
 use Rattle.lines.specs.Log.{nextLine}
@@ -30,6 +30,10 @@ use Rattle.relations.specs.declared.Composed.the-variants as Composed
 use Rattle.relations.specs.Sets.{converseOf, conversedOf}
 use Rattle.relations.specs.Runs.{finished?, relationIn, relateIn, Answers, Relating, Conversed}
 use Rattle.relations.specs.Compose.{composeOf, composedOf, Composition}
+use Rattle.report.specs.declared.Reported.{Reported}
+use Rattle.report.specs.declared.Reported.the-variants as Reported
+use Rattle.report.specs.Text.{reportText}
+use Rattle.report.specs.Report.{Result, reportOf, Reports}
 use Rattle.claims.specs.WhereMet.{MetRelate, relate-unknown, relate-unfinished, relate-same, MetCompose, first-above, second-above}
 
 -- ── starting a record ──
@@ -56,6 +60,61 @@ module _ (w : List ℕ) (a : Started) (w′ : List ℕ) (h : _≡_ {A = Started 
 
   pub start-kept : a .outcome ≡ Start.Refused c → w′ ≡ w
   start-kept = subst (λ (z : Started × List ℕ). z .0 .outcome ≡ Start.Refused c → z .1 ≡ w) (sym h) (start-of-kept w c)
+
+-- ── the report ──
+same-reported : (c d : ℕ) → Reported.Refused d ≡ Reported.Refused c → d ≡ c
+same-reported c d e = cc
+
+not-reported : {C : Type 0} (n c : ℕ) → Reported.Length n ≡ Reported.Refused c → C
+not-reported n c e = absurd (let z : _≡_ {A = ℕ} 0 1 = cc in omega arith)
+
+module _ (w out text : List ℕ) where
+  abbrev short? : Bool
+  short? = ltb (length w) 16384 || (ltb (length out) 256 || ltb (length text) 2048)
+
+  abbrev LongEnough : Type 0
+  LongEnough = (16384 ≤ length w) × (256 ≤ length out) × (2048 ≤ length text)
+
+  long-enough : LongEnough → short? ≡ false
+  long-enough h = simp (le-ltb _ _ (h .0), le-ltb _ _ (h .1), le-ltb _ _ (h .2))
+
+  too-short : (LongEnough → ⊥) → short? ≡ true
+  too-short n =
+      either-lt (length w) 16384
+      (λ a. simp (lt-ltb _ _ a))
+      (λ a.
+      either-lt (length out) 256
+      (λ b. simp (le-ltb _ _ a, lt-ltb _ _ b))
+      (λ b. either-lt (length text) 2048 (λ c. simp (le-ltb _ _ a, le-ltb _ _ b, lt-ltb _ _ c)) (λ c. absurd (n (a, b, c)))))
+
+  module _ (file log : List ℕ) (c : ℕ) where
+    refused-short : reportOf file log w out text .0 ≡ Reported.Refused c → (short? ≡ true) × (c ≡ 20)
+    unfolding reportOf
+    refused-short e =
+        either-bool short?
+        (λ s. (s, sym (same-reported c 20 (simp s at e))))
+        (λ s. not-reported (length (reportText file log)) c (simp s at e))
+
+    short-refused : short? ≡ true → reportOf file log w out text ≡ (Reported.Refused 20, w, out, text)
+    unfolding reportOf
+    short-refused s = simp s
+
+    module _ (a : Reported) (w′ out′ text′ : List ℕ) (h : Reports file log w out text a w′ out′ text′) where
+      answered : a ≡ reportOf file log w out text .0
+      answered = ap (λ (z : Result). z .0) (h .answer)
+
+      pub report-met : (a ≡ Reported.Refused c) ↔ ((LongEnough → ⊥) × (c ≡ 20))
+      report-met = (
+        (λ e.
+            let s = refused-short (sym answered ∙ e) in
+            ((λ l. no-both (sym (s .0) ∙ long-enough l)), s .1)),
+        (λ p. answered ∙ (ap (λ (z : Result). z .0) (short-refused (too-short (p .0))) ∙ ap Reported.Refused (sym (p .1)))),
+      )
+
+      pub report-kept : a ≡ Reported.Refused c → (w′ ≡ w) × (out′ ≡ out) × (text′ ≡ text)
+      report-kept e =
+          let z = h .answer ∙ short-refused (refused-short (sym answered ∙ e) .0) in
+          (ap (λ (z : Result). z .1) z, ap (λ (z : Result). z .2) z, ap (λ (z : Result). z .3) z)
 
 -- ── relating two runs ──
 same-related : (c d : ℕ) → Related.Refused d ≡ Related.Refused c → d ≡ c

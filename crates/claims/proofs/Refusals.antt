@@ -35,7 +35,7 @@ use Rattle.claims.specs.Demands.{Listed, LogRefused, unread, stopped, De
 use Rattle.claims.proofs.Numbers.{line-number}
 use Rattle.claims.proofs.Stops.{same-refusal, not-judged, End, same-ending, Stopped, stops, start-of, start-lines, first-refused}
 use Rattle.claims.proofs.WhereMet.{handed, line-met, tallied-met, log-met}
-use Rattle.claims.proofs.OtherCalls.{start-met, start-kept, relate-met, compose-met, converse-met, next-met, parse-met}
+use Rattle.claims.proofs.OtherCalls.{start-met, start-kept, report-met, report-kept, relate-met, compose-met, converse-met, next-met, parse-met}
 
 -- ── numbers ──
 rule-range : (file : List ℕ) (n : ℕ) → ruleOf file ≡ RuleRead.Refused n → (1 ≤ n) × (n ≤ 10)
@@ -189,6 +189,8 @@ demand-1 =
       log-kept = log-by;
       start-met = start-met;
       start-kept = start-kept;
+      report-met = λ file log w out text a w′ out′ text′ h c. report-met w out text file log c a w′ out′ text′ h;
+      report-kept = λ file log w out text a w′ out′ text′ h c. report-kept w out text file log c a w′ out′ text′ h;
       relate-met = relate-met;
       compose-met = compose-met;
       converse-met = converse-met;

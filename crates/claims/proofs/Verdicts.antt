@@ -119,5 +119,6 @@ demand-2 =
       zeros = tally-starts;
       counted = tally-taken;
       log = λ file x e log w out long room a w′ out′ h. h .meaning x e long room;
+      report = λ file x e log w out text a w′ out′ text′ h n p. h .meaning n x p e;
       read = λ file x e log t k w out long room a w′ out′ h. ap (λ (z : Result). z .0) (h .answer) ∙ log-read file x e log t k w out long room;
     }

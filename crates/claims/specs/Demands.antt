@@ -5,12 +5,13 @@
 --   Accepted log t      no line of log meets a refusal, and the trace t is what its lines leave      trace/specs/Trace.antt
 --   Left log t r w      they leave the record r and the pair bytes of the work area w                monitor/specs/Handed.antt
 --   ChecksLine, ChecksTallied, ChecksLog    the contracts of the calls of `monitor`                  monitor/specs/Line, Tally, Log.antt
---   startOf, Relating, Composition, Conversed    those of start_record, relate, compose, converse    pairs/, relations/specs
+--   startOf, Reports    those of start_record and report                                             pairs/, report/specs
+--   Relating, Composition, Conversed    those of relate, compose and converse                        relations/specs
 --   ReadsRule, nextLine, parsedOf    those of read_rule, next_line, parse_line                       rules/, lines/specs
 --   MetLine .. MetCompose    where a call meets a refusal                                            claims/specs/WhereMet.antt
 --   Says t f v          v is "holds" if and only if the lines satisfy the formula f                  logic/specs/Verdict.antt
 --   formulaOf file x    the formula of a rule file                                                   rules/specs/Rules.antt
---   TakenLine, TalliedMeans, LogMeans    what an answer says of the log                              monitor/specs
+--   TakenLine, TalliedMeans, LogMeans, TextMeans    what an answer says of the log                   monitor/, report/specs
 --   pairByte, workOf    the byte of two runs, and the work area with all of them                     pairs/specs/Pairs.antt
 --   Shown log a b r     the log shows r by three runs through members of a and b                     relations/specs/Compose.antt
 use Prim.Native.Nat.{ℕ, _+_, _*_, _≤_, _<_}
@@ -58,6 +59,9 @@ use Rattle.monitor.specs.Handed.{Left}
 use Rattle.monitor.specs.Line.{judged, refusing, TakenLine, ChecksLine}
 use Rattle.monitor.specs.Tally.{counts?, refusingWith, tallyAfter, TalliedMeans, ChecksTallied}
 use Rattle.monitor.specs.Log.{ended, notRead, logOf, LogMeans, ChecksLog}
+use Rattle.report.specs.declared.Reported.{Reported}
+use Rattle.report.specs.declared.Reported.the-variants as Reported
+use Rattle.report.specs.Report.{TextMeans, Reports}
 use Rattle.claims.specs.WhereMet.{MetLine, MetTallied, FirstRefused, MetLog, MetRelate, MetCompose}
 
 -- ── demand 1 ──
@@ -95,6 +99,11 @@ pub record Demand1 : Type 0 where
       → (c : ℕ) → (a .outcome ≡ Start.Refused c) ↔ ((length w < 16384) × (c ≡ 20))
   pub start-kept : (w : List ℕ) (a : Started) (w′ : List ℕ) → _≡_ {A = Started × List ℕ} (a, w′) (startOf w)
       → (c : ℕ) → a .outcome ≡ Start.Refused c → w′ ≡ w
+  -- the report
+  pub report-met : (file log w out text : List ℕ) (a : Reported) (w′ out′ text′ : List ℕ) → Reports file log w out text a w′ out′ text′
+      → (c : ℕ) → (a ≡ Reported.Refused c) ↔ (((16384 ≤ length w) × (256 ≤ length out) × (2048 ≤ length text) → ⊥) × (c ≡ 20))
+  pub report-kept : (file log w out text : List ℕ) (a : Reported) (w′ out′ text′ : List ℕ) → Reports file log w out text a w′ out′ text′
+      → (c : ℕ) → a ≡ Reported.Refused c → (w′ ≡ w) × (out′ ≡ out) × (text′ ≡ text)
   -- relating two runs, and sets of relations: no buffer is lent
   pub relate-met : (r : Record) (a b : RunNo) (v : Related) → Relating r a b v → (c : ℕ) → (v ≡ Related.Refused c) ↔ MetRelate r (a .0) (b .0) c
   pub compose-met : (a b : ℕ) (v : Composed) → Composition a b v → (c : ℕ) → (v ≡ Composed.Refused c) ↔ MetCompose a b c
@@ -142,6 +151,9 @@ pub record Demand2 : Type 0 where
   -- and after every line of a whole log, up to the first that is refused: its verdict byte, and at the end the record and the pair bytes
   pub log : (file : List ℕ) (x : Rule) → ruleOf file ≡ RuleRead.Rule x → (log w out : List ℕ) → 16384 ≤ length w → 256 ≤ length out
       → (a : LogChecked) (w′ out′ : List ℕ) → ChecksLog file log w out a w′ out′ → LogMeans file x log w out a w′ out′
+  -- and so says each line of the report
+  pub report : (file : List ℕ) (x : Rule) → ruleOf file ≡ RuleRead.Rule x → (log w out text : List ℕ) (a : Reported) (w′ out′ text′ : List ℕ)
+      → Reports file log w out text a w′ out′ text′ → (n : ℕ) → a ≡ Reported.Length n → TextMeans file x log (take n text′)
   -- an accepted log is read to its end
   pub read : (file : List ℕ) (x : Rule) → ruleOf file ≡ RuleRead.Rule x → (log : List ℕ) (t : Trace) → Accepted log t → (w out : List ℕ) → 16384 ≤ length w → 256 ≤ length out
       → (a : LogChecked) (w′ out′ : List ℕ) → ChecksLog file log w out a w′ out′ → a ≡ ended t Ending.Read

@@ -75,39 +75,43 @@ finished-table t long few n e = omega (arith, e, finished-most (held t), length-
 pub counts-record : (r : Record) (n f : ℕ) → f ≡ finishedRuns (held (r .runs))
     → CountsRecord r n (record { lines = r .lines .0; begun = r .runs .count; finished = f; running = r .runs .count - f; failing = n })
 unfolding tallyOf recordOf
-counts-record r n f e t q =
-    let g : f ≡ finishedRuns (t .runs) = e ∙ (ap (λ (x : Record). finishedRuns (held (x .runs))) q ∙ ap finishedRuns (held-runs t)) in
-    (λ i. record { lines = q i .lines .0; begun = q i .runs .count; finished = g i; running = q i .runs .count - g i; failing = n })
+counts-record r n f e =
+    record {
+      answer = λ i. record { lines = r .lines .0; begun = r .runs .count; finished = e i; running = r .runs .count - e i; failing = n };
+      meaning = λ t q.
+          let g : f ≡ finishedRuns (t .runs) = e ∙ (ap (λ (x : Record). finishedRuns (held (x .runs))) q ∙ ap finishedRuns (held-runs t)) in
+          (λ i. record { lines = q i .lines .0; begun = q i .runs .count; finished = g i; running = q i .runs .count - g i; failing = n });
+    }
 
 -- ── whether a tally has the counts of a record ──
 module _ (r : Record) (y z : Tally) (n : ℕ) (k : CountsRecord r n z) where
   pub lines-differ : (y .lines ≡ z .lines → ⊥) → MatchesRecord r y false
   unfolding counts? tallyOf
-  lines-differ d t e = simp (ne-eqb (y .lines) (t .lines) (λ q. d (q ∙ sym (ap (λ (x : Tally). x .lines) (k t e)))))
+  lines-differ d t e = simp (ne-eqb (y .lines) (t .lines) (λ q. d (q ∙ sym (ap (λ (x : Tally). x .lines) (k .meaning t e)))))
 
   module _ (a : y .lines ≡ z .lines) where
     lines-same : (t : Trace) → r ≡ recordOf t → eqb (y .lines) (t .lines) ≡ true
     unfolding tallyOf
-    lines-same t e = eq-eqb (y .lines) (t .lines) (a ∙ ap (λ (x : Tally). x .lines) (k t e))
+    lines-same t e = eq-eqb (y .lines) (t .lines) (a ∙ ap (λ (x : Tally). x .lines) (k .meaning t e))
 
     pub begun-differ : (y .begun ≡ z .begun → ⊥) → MatchesRecord r y false
     unfolding counts? tallyOf
-    begun-differ d t e = simp (lines-same t e, ne-eqb (y .begun) (length (t .runs)) (λ q. d (q ∙ sym (ap (λ (x : Tally). x .begun) (k t e)))))
+    begun-differ d t e = simp (lines-same t e, ne-eqb (y .begun) (length (t .runs)) (λ q. d (q ∙ sym (ap (λ (x : Tally). x .begun) (k .meaning t e)))))
 
     module _ (b : y .begun ≡ z .begun) where
       begun-same : (t : Trace) → r ≡ recordOf t → eqb (y .begun) (length (t .runs)) ≡ true
       unfolding tallyOf
-      begun-same t e = eq-eqb (y .begun) (length (t .runs)) (b ∙ ap (λ (x : Tally). x .begun) (k t e))
+      begun-same t e = eq-eqb (y .begun) (length (t .runs)) (b ∙ ap (λ (x : Tally). x .begun) (k .meaning t e))
 
       pub finished-differ : (y .finished ≡ z .finished → ⊥) → MatchesRecord r y false
       unfolding counts? tallyOf
       finished-differ d t e =
-          simp (lines-same t e, begun-same t e, ne-eqb (y .finished) (finishedRuns (t .runs)) (λ q. d (q ∙ sym (ap (λ (x : Tally). x .finished) (k t e)))))
+          simp (lines-same t e, begun-same t e, ne-eqb (y .finished) (finishedRuns (t .runs)) (λ q. d (q ∙ sym (ap (λ (x : Tally). x .finished) (k .meaning t e)))))
 
       module _ (f : y .finished ≡ z .finished) where
         finished-same-count : (t : Trace) → r ≡ recordOf t → eqb (y .finished) (finishedRuns (t .runs)) ≡ true
         unfolding tallyOf
-        finished-same-count t e = eq-eqb (y .finished) (finishedRuns (t .runs)) (f ∙ ap (λ (x : Tally). x .finished) (k t e))
+        finished-same-count t e = eq-eqb (y .finished) (finishedRuns (t .runs)) (f ∙ ap (λ (x : Tally). x .finished) (k .meaning t e))
 
         pub running-differ : (y .running ≡ z .running → ⊥) → MatchesRecord r y false
         unfolding counts? tallyOf
@@ -116,7 +120,7 @@ module _ (r : Record) (y z : Tally) (n : ℕ) (k : CountsRecord r n z) where
               lines-same t e,
               begun-same t e,
               finished-same-count t e,
-              ne-eqb (y .running) (length (t .runs) - finishedRuns (t .runs)) (λ q. d (q ∙ sym (ap (λ (x : Tally). x .running) (k t e)))),
+              ne-eqb (y .running) (length (t .runs) - finishedRuns (t .runs)) (λ q. d (q ∙ sym (ap (λ (x : Tally). x .running) (k .meaning t e)))),
             )
 
         pub counts-same : y .running ≡ z .running → MatchesRecord r y (leb (y .failing) (y .lines))
@@ -126,7 +130,7 @@ module _ (r : Record) (y z : Tally) (n : ℕ) (k : CountsRecord r n z) where
               lines-same t e,
               begun-same t e,
               finished-same-count t e,
-              eq-eqb (y .running) (length (t .runs) - finishedRuns (t .runs)) (o ∙ ap (λ (x : Tally). x .running) (k t e)),
+              eq-eqb (y .running) (length (t .runs) - finishedRuns (t .runs)) (o ∙ ap (λ (x : Tally). x .running) (k .meaning t e)),
             )
 
 pub ruleset matching = (lines-differ, begun-differ, finished-differ, running-differ, counts-same)
@@ -140,7 +144,7 @@ module _ (c : Checked) (y : Tally) where
         takes = λ t v e q. judged-taken v n (sym q ∙ o);
       }
 
-  counted : (v : Verdict) → c .outcome ≡ judged v → (z : Tally) → CountsRecord (c .state) (y .failing + failed v) z
+  counted : (v : Verdict) → c .outcome ≡ judged v → (z : Tally) → ((t : Trace) → c .state ≡ recordOf t → z ≡ tallyOf t (y .failing + failed v))
       → CountsLine c y (record { state = c .state; tally = z; outcome = judged v })
   counted v o z k =
       record {
@@ -151,10 +155,10 @@ module _ (c : Checked) (y : Tally) where
       }
 
   pub count-holds : c .outcome ≡ Holds → (z : Tally) → CountsRecord (c .state) (y .failing) z → CountsLine c y (record { state = c .state; tally = z; outcome = Holds })
-  count-holds o z k = counted Verdict.Holds o z (λ t e. k t e ∙ ap (tallyOf t) (let s : y .failing ≡ y .failing + 0 = omega arith in s))
+  count-holds o z k = counted Verdict.Holds o z (λ t e. k .meaning t e ∙ ap (tallyOf t) (let s : y .failing ≡ y .failing + 0 = omega arith in s))
 
   pub count-fails : c .outcome ≡ Fails → (z : Tally) → CountsRecord (c .state) (y .failing + 1) z → CountsLine c y (record { state = c .state; tally = z; outcome = Fails })
-  count-fails o z k = counted Verdict.Fails o z k
+  count-fails o z k = counted Verdict.Fails o z (k .meaning)
 
 -- a tally that has the counts of a record has few failing lines
 pub failing-most : (t : Trace) (y : Tally) → Bounded t → counts? t y ≡ true → y .failing ≤ 256

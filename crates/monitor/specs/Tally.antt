@@ -12,6 +12,7 @@ use Rattle.lines.specs.Log.{linesOf}
 use Rattle.trace.specs.declared.Run.{Run}
 use Rattle.trace.specs.declared.Record.{Record}
 use Rattle.trace.specs.Trace.{Trace, Answer, next, refused, noTrace, apply, finish, Accepted}
+use Rattle.trace.specs.Steps.{held}
 use Rattle.trace.specs.Record.{recordOf}
 use Rattle.pairs.specs.Pairs.{workOf}
 use Rattle.rules.specs.declared.Rule.{Rule}
@@ -82,8 +83,19 @@ abbrev pub refusingWith : Record → Tally → ℕ → Tallied
 refusingWith r y c = record { state = r; tally = y; outcome = Refused c }
 
 -- the counts of a record, whether a tally has them, and the tally after a line
-abbrev pub CountsRecord : Record → ℕ → Tally → Type 0
-CountsRecord r n y = (t : Trace) → r ≡ recordOf t → y ≡ tallyOf t n
+abbrev pub countsOf : Record → ℕ → Tally
+countsOf r n =
+    record {
+      lines = r .lines .0;
+      begun = r .runs .count;
+      finished = finishedRuns (held (r .runs));
+      running = r .runs .count - finishedRuns (held (r .runs));
+      failing = n;
+    }
+
+pub record CountsRecord (r : Record) (n : ℕ) (y : Tally) : Type 0 where
+  pub answer : y ≡ countsOf r n
+  pub meaning : (t : Trace) → r ≡ recordOf t → y ≡ tallyOf t n
 
 abbrev pub MatchesRecord : Record → Tally → Bool → Type 0
 MatchesRecord r y b = (t : Trace) → r ≡ recordOf t → b ≡ counts? t y

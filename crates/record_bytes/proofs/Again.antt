@@ -5,6 +5,7 @@ use mathlib.Core.List.{List, _++_, append-assoc}
 use native.Mathlib.Omega.{arith}
 use lib.ListN.{length, getD}
 use lib.Seq.{getD-append-add}
+use borrow.Author.Tests.{lt-ltb}
 use Rattle.labels.specs.declared.Label.{Label}
 use Rattle.labels.specs.declared.LabelNo.{LabelNo}
 use Rattle.labels.specs.Label.{labelNo, absent}
@@ -12,7 +13,7 @@ use Rattle.trace.specs.declared.Run.{Run}
 use Rattle.trace.specs.declared.Record.{Record}
 use Rattle.trace.specs.Trace.{line, noRun}
 use Rattle.record_bytes.specs.Joined.{values}
-use Rattle.record_bytes.specs.Form.{runsAt, runSize, labelsAt, labelSize, placesAt, u16Bytes, headBytes, runBytes, labelBytes, runsBytes, labelsBytes, placesBytes, recordBytes, byteAt, u16At, runFrom, labelFrom, runsFrom, labelsFrom, placesFrom, recordFrom}
+use Rattle.record_bytes.specs.Form.{runsAt, runSize, labelsAt, labelSize, placesAt, u16Bytes, countByte, headBytes, runBytes, labelBytes, runsBytes, labelsBytes, placesBytes, recordBytes, byteAt, u16At, runFrom, labelFrom, runsFrom, labelsFrom, placesFrom, recordFrom}
 use Rattle.record_bytes.proofs.Joined.{joined-at, values-at, value-at, values-are}
 use Rattle.record_bytes.proofs.Form.{head-long, run-long, label-long, runs-long, labels-long}
 
@@ -30,6 +31,10 @@ behind : (p q : List ℕ) (n m : ℕ) → m ≡ length p + n → byteAt (p ++ q)
 behind p q n m e = ap (byteAt (p ++ q)) e ∙ getD-append-add p q n 0
 
 -- two bytes make the number that they were made of
+count-kept : (n : ℕ) → n < 256 → countByte n ≡ n
+unfolding countByte
+count-kept n h = simp (lt-ltb n 256 h)
+
 two-bytes : (s : List ℕ) (m n : ℕ) → byteAt s m ≡ n % 256 → byteAt s (m + 1) ≡ n / 256 → u16At s m ≡ n
 two-bytes s m n p q = omega arith
 
@@ -122,8 +127,8 @@ module _ (r : Record) (rest : List ℕ) where
     unfolding recordFrom headBytes u16Bytes
     record-again =
         let lines : u16At parts 0 ≡ r .lines .0 = two-bytes parts 0 (r .lines .0) refl refl in
-        let runs : byteAt parts 2 ≡ r .runs .count = omega (arith, f .run-count) in
-        let labels : byteAt parts 3 ≡ r .labels .count = omega (arith, f .label-count) in
+        let runs : byteAt parts 2 ≡ r .runs .count = count-kept (r .runs .count) (omega (arith, f .run-count)) in
+        let labels : byteAt parts 3 ≡ r .labels .count = count-kept (r .labels .count) (omega (arith, f .label-count)) in
         ap recordFrom in-parts
         ∙ (λ j.
         record {

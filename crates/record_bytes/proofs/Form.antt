@@ -1,6 +1,6 @@
 -- How long the parts of a record's bytes are, and that parts stored one after another are the whole.
 use Prim.Native.Nat.{ℕ, _+_, _%_}
-use mathlib.Core.Path.{_≡_, refl}
+use mathlib.Core.Path.{_≡_, refl, _∙_}
 use mathlib.Core.List.{List, [], _∷_, _++_}
 use native.Mathlib.Omega.{arith}
 use lib.ListN.{length, getD, set, length-append}
@@ -11,7 +11,7 @@ use Rattle.trace.specs.declared.Run.{Run}
 use Rattle.trace.specs.declared.Record.{Record}
 use Rattle.trace.specs.Trace.{noRun}
 use Rattle.record_bytes.specs.Joined.{stored}
-use Rattle.record_bytes.specs.Form.{runsAt, labelsAt, placesAt, recordSize, u16Bytes, headBytes, runBytes, labelBytes, runsBytes, labelsBytes, placesBytes, recordBytes}
+use Rattle.record_bytes.specs.Form.{runsAt, labelsAt, placesAt, recordSize, u16Bytes, countByte, headBytes, runBytes, labelBytes, runsBytes, labelsBytes, placesBytes, recordBytes}
 use Rattle.record_bytes.proofs.Joined.{length-joined, length-values, stored-after, stored-one, stored-first}
 
 pub u16-long : (n : ℕ) → length (u16Bytes n) ≡ 2
@@ -64,13 +64,13 @@ run-stored w a b c p r e f g =
     (omega (arith, u16-long (r .id)))
 
 -- the three counts
-pub head-stored : (w a : List ℕ) (n x y : ℕ) → a ≡ stored w 0 (u16Bytes n) → set (set a 2 (x % 256)) 3 (y % 256) ≡ stored w 0 (headBytes n x y)
+pub head-stored : (w a : List ℕ) (n x y u v : ℕ) → a ≡ stored w 0 (u16Bytes n) → u ≡ countByte x → v ≡ countByte y → set (set a 2 u) 3 v ≡ stored w 0 (headBytes n x y)
 unfolding headBytes
-head-stored w a n x y e =
-    let b : List ℕ = set a 2 (x % 256) in
-    stored-after w a (set b 3 (y % 256)) 0 2 (u16Bytes n) (x % 256 ∷ y % 256 ∷ []) e
-    (stored-first a (set b 3 (y % 256)) 2 3 (x % 256) (y % 256 ∷ []) (stored-one b 3 (y % 256)) refl)
-    (omega (arith, u16-long n))
+head-stored w a n x y u v e f g =
+    let b : List ℕ = set a 2 u in
+    let h : set b 3 v ≡ stored w 0 (u16Bytes n ++ (u ∷ v ∷ [])) =
+    stored-after w a (set b 3 v) 0 2 (u16Bytes n) (u ∷ v ∷ []) e (stored-first a (set b 3 v) 2 3 u (v ∷ []) (stored-one b 3 v) refl) (omega (arith, u16-long n)) in
+    h ∙ (λ i. stored w 0 (u16Bytes n ++ (f i ∷ g i ∷ [])))
 
 -- a record's four parts
 pub record-stored : (w a b c d : List ℕ) (r : Record) → a ≡ stored w 0 (headBytes (r .lines .0) (r .runs .count) (r .labels .count)) → b ≡ stored a runsAt (runsBytes (r .runs .list))

@@ -2,7 +2,9 @@
 -- "The carried record has, for each run, id, begin line, end line (0 while open) and label number, also the labels, the 128
 -- places and the line count." The counts of runs and labels that it keeps are in its bytes too.
 use Prim.Native.Nat.{ℕ, _+_, _*_, _/_, _%_}
+use mathlib.Core.Bool.{cond}
 use mathlib.Core.List.{List, [], _∷_, _++_}
+use lib.Dec.{ltb}
 use lib.ListN.{getD}
 use Rattle.labels.specs.declared.Label.{Label}
 use Rattle.labels.specs.declared.LabelNo.{LabelNo}
@@ -37,9 +39,13 @@ recordSize = 2628
 unfoldable pub u16Bytes : ℕ → List ℕ
 u16Bytes n = n % 256 ∷ n / 256 ∷ []
 
+-- A count in one byte. One above 255 is held as 255: it is wrong as well, since there are places for 128 runs and 64 labels.
+unfoldable pub countByte : ℕ → ℕ
+countByte n = cond (ltb n 256) n 255
+
 -- the line count in two bytes, the counts of runs and labels in one each
 unfoldable pub headBytes : ℕ → ℕ → ℕ → List ℕ
-headBytes lines runs labels = u16Bytes lines ++ (runs % 256 ∷ labels % 256 ∷ [])
+headBytes lines runs labels = u16Bytes lines ++ (countByte runs ∷ countByte labels ∷ [])
 
 -- "for each run, id, begin line, end line (0 while open) and label number": 7 bytes
 unfoldable pub runBytes : Run → List ℕ

@@ -3,7 +3,7 @@ ghost use mathlib.Core.Path.{_≡_};
 ghost use Prim.Native.Nat.{_+_, _*_, _<_, _≤_};
 ghost use lib.ListN.{length};
 ghost use Rattle.record_bytes.specs.Joined.{stored};
-ghost use Rattle.record_bytes.specs.Form.{runsAt, runSize, labelsAt, labelSize, placesAt, recordSize, u16Bytes, headBytes, runBytes, runsBytes, labelBytes, labelsBytes, placesBytes, recordBytes};
+ghost use Rattle.record_bytes.specs.Form.{runsAt, runSize, labelsAt, labelSize, placesAt, recordSize, u16Bytes, countByte, headBytes, runBytes, runsBytes, labelBytes, labelsBytes, placesBytes, recordBytes};
 use crate::LABEL_BYTES;
 use crate::LABEL_COUNT_AT;
 use crate::LABELS_AT;
@@ -93,14 +93,21 @@ fn put_places(out: &mut [u8], list: [LabelNo; 128])
     }
 }
 
+// A count in one byte; 255 for one that has no room there.
+fn count_byte(n: usize) -> u8
+    ensures { λ b. ⌜ b ≡ countByte n ⌝ }
+{
+    if n < 256 { n as u8 } else { 255 }
+}
+
 // The counts: of lines, of runs and of labels.
 fn put_head(out: &mut [u8], lines: u16, runs: usize, labels: usize)
     requires { ⌜ recordSize ≤ length (now out) ⌝ }
     ensures { λ _. ⌜ now (out .exit) ≡ stored (now (out .entry)) 0 (headBytes lines runs labels) ⌝ }
 {
     put_u16(out, 0, lines);
-    out[RUN_COUNT_AT] = (runs % 256) as u8;
-    out[LABEL_COUNT_AT] = (labels % 256) as u8;
+    out[RUN_COUNT_AT] = count_byte(runs);
+    out[LABEL_COUNT_AT] = count_byte(labels);
 }
 
 // The whole record.

@@ -43,7 +43,7 @@ module _ (a : LogChecked) (o : OfTrace a) where
       record { lines = omega arith; begun = omega arith; finished = omega arith; running = omega arith; failing = omega arith }
 
   pub tally-low : (n : ℕ) (y : Tally) → CountsRecord (a .state) n y → n ≤ 256 → Printable y
-  tally-low n y k h = subst Printable (sym (k (o .trace) (o .state))) (trace-low n h)
+  tally-low n y k h = subst Printable (sym (k .meaning (o .trace) (o .state))) (trace-low n h)
 
 -- ── what is printed ──
 module _ (a : LogChecked) (o : OfTrace a) (v text text₁ text₂ : List ℕ) (q r : ℕ) (w : Writes (linesTo v (a .state .lines .0)) text 0 text₁ q) (h : q ≤ 1536) (e : WritesFew 9 (endingText (a .ending)) text₁ q text₂ r) (b : Bool) (u : b ≡ unread? (a .ending)) where
@@ -63,7 +63,7 @@ module _ (a : LogChecked) (o : OfTrace a) (v text text₁ text₂ : List ℕ) (q
   printed-tally p text₃ n m y f k c t s =
       let l = lines-of a t s in
       let z : unread? (a .ending) ≡ false = sym u ∙ p in
-      let d : y ≡ tallyOf t (failsTo v (t .lines)) = k t s ∙ ap (tallyOf t) (f ∙ ap (failsTo v) l) in
+      let d : y ≡ tallyOf t (failsTo v (t .lines)) = k .meaning t s ∙ ap (tallyOf t) (f ∙ ap (failsTo v) l) in
       record {
         writes = writes-same (simp z (λ i. linesTo v (l i) ++ (endingText (a .ending) ++ tallyText (d i)))) (then w (then (e .writes) (c .writes)));
         few = omega (arith, h, e .few, c .few);

@@ -4,5 +4,6 @@ pub mod Nodes
 pub mod Formulas
 pub mod WholeTable
 pub mod Rules
+pub mod Cut
 pub mod Scopes
 pub mod Worked

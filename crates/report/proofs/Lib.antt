@@ -5,4 +5,5 @@ pub mod Record
 pub mod Printed
 pub mod Means
 pub mod ReportCall
+pub mod Cut
 pub mod Examples

@@ -28,12 +28,12 @@ use Rattle.report.proofs.Printed.{Printed, printed}
 use Rattle.report.proofs.Means.{text-means}
 
 -- what the whole-log call answers, and the text that it gives
-record Given (file log : List ℕ) (z : Checked) : Type 0 where
-  trace : Trace
-  bounded : Bounded trace
-  state : z .0 .state ≡ recordOf trace
-  line : LineLow (z .0 .ending)
-  text : recordText trace (z .0 .ending) (z .2) ≡ reportText file log
+pub record Given (file log : List ℕ) (z : Checked) : Type 0 where
+  pub trace : Trace
+  pub bounded : Bounded trace
+  pub state : z .0 .state ≡ recordOf trace
+  pub line : LineLow (z .0 .ending)
+  pub text : recordText trace (z .0 .ending) (z .2) ≡ reportText file log
 
 module _ (file log w out : List ℕ) (long : 16384 ≤ length w) (room : 256 ≤ length out) where
   given-unruled : (n : ℕ) → ruleOf file ≡ RuleRead.Refused n → Given file log (notRead n, w, out)
@@ -67,7 +67,7 @@ module _ (file log w out : List ℕ) (long : 16384 ≤ length w) (room : 256 ≤
   unfolding logOf
   log-ruled x e = simp (le-ltb (length w) 16384 long, le-ltb (length out) 256 room) (with-taken (ruleOf file) x _ _ e)
 
-  given : Given file log (logOf file log w out)
+  pub given : Given file log (logOf file log w out)
   given = by-rule (ruleOf file) refl
     where
       by-rule : (q : RuleRead) → ruleOf file ≡ q → Given file log (logOf file log w out)

@@ -1,6 +1,6 @@
 -- With buffers that are long enough the report is not refused, and its text stands at the start of the buffer.
 use Prim.Native.Nat.{ℕ, _≤_}
-use mathlib.Core.Path.{_≡_, ap, sym, _∙_}
+use mathlib.Core.Path.{_≡_, ap, ap₂, sym, _∙_}
 use mathlib.Core.List.{List, _++_}
 use native.Mathlib.Omega.{arith}
 use lib.ListN.{length, take, drop, length-append}
@@ -11,6 +11,7 @@ use Rattle.report.specs.declared.Reported.{Reported}
 use Rattle.report.specs.declared.Reported.the-variants.{Length, Refused}
 use Rattle.report.specs.Text.{reportText}
 use Rattle.report.specs.Report.{Result, reportOf, Reports}
+use Rattle.report.proofs.Cut.{first-bytes-decide-report}
 use Rattle.log_check.specs.Printed.{Printed}
 
 -- the length that an answer names
@@ -36,7 +37,11 @@ module _ (file log w out text : List ℕ) (long : 16384 ≤ length w) (room : 25
         let t : text′ ≡ R ++ drop (length R) text = ap (λ (z : Result). z .3) all in
         let h : n ≤ length text′ = simp (t, k, length-append) (omega arith) in
         let b : take n text′ ≡ R = simp (t, k) (take-append-seam R (drop (length R) text)) in
-        record { counts = (h, sym (length-take-le n text′ h)); bytes = b }
+        record {
+          counts = (h, sym (length-take-le n text′ h));
+          bytes = b;
+          whole = λ f i p q. b ∙ (ap₂ reportText p q ∙ first-bytes-decide-report f i);
+        }
 
     pub not-refused : (c : ℕ) → a ≡ Refused c → (n : ℕ) → Printed file log text′ n
     not-refused c e n =

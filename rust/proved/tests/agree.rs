@@ -1,6 +1,6 @@
 //! The proved library, the check program and the reference agree on everything that is generated.
 //!
-//! Every case goes to the library. A part of the cases goes to the program too, since starting one takes a while.
+//! Every case goes to the library and to the program.
 
 use generate::random::Random;
 use generate::{case, Case};
@@ -11,16 +11,17 @@ use std::fs;
 use std::io::{Read, Write};
 use std::path::{Path, PathBuf};
 use std::process::{Command, Stdio};
+use std::thread;
 
-const CASES: u64 = 24_000;
+const CASES: u64 = 20_000;
+
+/// How many threads share the cases.
+const THREADS: u64 = 2;
 
 /// The seed of the first case; the variable FIRST_SEED of the environment names another one, for other cases.
 fn first_seed() -> u64 {
     std::env::var("FIRST_SEED").map_or(0, |text| text.parse().expect("FIRST_SEED is a number"))
 }
-
-/// One case in so many goes to the program too.
-const PROGRAM_EVERY: u64 = 12;
 
 /// The numbers that the program can print.
 const PRINTED: [u8; 18] = [1, 2, 3, 4, 5, 6, 7, 8, 9, 10, 11, 12, 13, 15, 16, 17, 18, 19];
@@ -134,51 +135,93 @@ fn printed_refusal(report: &[u8]) -> Option<u8> {
     text.lines().find_map(|line| line.split_once(" R")).map(|(_, number)| number.parse().unwrap())
 }
 
+/// What was seen in the cases.
+#[derive(Default)]
+struct Seen {
+    answered: BTreeMap<u8, u64>,
+    printed: BTreeMap<u8, u64>,
+    /// How often each kind of log was read, and how many logs were full.
+    kinds: BTreeMap<&'static str, u64>,
+    full: u64,
+    cases: u64,
+}
+
+impl Seen {
+    fn add(&mut self, other: Seen) {
+        for (number, count) in other.answered {
+            *self.answered.entry(number).or_default() += count;
+        }
+        for (number, count) in other.printed {
+            *self.printed.entry(number).or_default() += count;
+        }
+        for (kind, count) in other.kinds {
+            *self.kinds.entry(kind).or_default() += count;
+        }
+        self.full += other.full;
+        self.cases += other.cases;
+    }
+}
+
+/// Holds the three against each other on one case. The folder is for the program's rule file.
+fn compare(seed: u64, folder: &Path, seen: &mut Seen) {
+    let case = case(seed);
+    let random = &mut Random::new(!seed);
+    let log = left_by_reference(&case);
+    assert!(left_by_library(&case) == log, "the whole-log calls differ on {}", described(&case));
+    let printed = report(&case.rule, &case.log);
+    let text = text_buffer(random);
+    let expected = expected_report(&case, &text, &printed, &log);
+    assert!(report_by_library(&case, &text) == expected, "the reports differ on {}", described(&case));
+    fs::write(folder.join("rule.rul"), &case.rule).unwrap();
+    let piece = *random.pick(&[1, 7, 100, 4096, 10_000]);
+    let output = printed_by_program(folder, &case.log, piece.max(case.log.len() / 300));
+    assert!(output == printed, "the program and the reference differ on {}", described(&case));
+    if let Some(number) = printed_refusal(&output) {
+        *seen.printed.entry(number).or_default() += 1;
+    }
+    if !matches!(log.refusal, Some((_, 0))) {
+        *seen.kinds.entry(case.kind).or_default() += 1;
+        seen.full += u64::from(log.lines == 256);
+    }
+    let refusals = [log.refusal.map(|(number, _)| number), (expected.length.is_none()).then_some(20)];
+    for number in refusals.into_iter().flatten() {
+        *seen.answered.entry(number).or_default() += 1;
+    }
+    seen.cases += 1;
+}
+
 #[test]
 fn library_program_and_reference_agree_on_generated_cases() {
-    let folder = empty_folder("agree");
-    let (mut answered, mut printed_numbers): (BTreeMap<u8, u64>, BTreeMap<u8, u64>) = Default::default();
-    // How often each kind of log was read, and how many logs were full.
-    let mut kinds: BTreeMap<&str, u64> = BTreeMap::new();
-    let (mut runs_of_program, mut full) = (0, 0);
-    for seed in first_seed()..first_seed() + CASES {
-        let case = case(seed);
-        let random = &mut Random::new(!seed);
-        let log = left_by_reference(&case);
-        assert!(left_by_library(&case) == log, "the whole-log calls differ on {}", described(&case));
-        let printed = report(&case.rule, &case.log);
-        let text = text_buffer(random);
-        let expected = expected_report(&case, &text, &printed, &log);
-        assert!(report_by_library(&case, &text) == expected, "the reports differ on {}", described(&case));
-        if seed % PROGRAM_EVERY == 0 {
-            fs::write(folder.join("rule.rul"), &case.rule).unwrap();
-            let piece = *random.pick(&[1, 7, 100, 4096, 10_000]);
-            let output = printed_by_program(&folder, &case.log, piece.max(case.log.len() / 300));
-            assert!(output == printed, "the program and the reference differ on {}", described(&case));
-            runs_of_program += 1;
-            if let Some(number) = printed_refusal(&output) {
-                *printed_numbers.entry(number).or_default() += 1;
-            }
+    let mut seen = Seen::default();
+    // Each thread has a folder of its own, since the program reads its rule from the folder that it is started in.
+    thread::scope(|scope| {
+        let parts: Vec<_> = (0..THREADS)
+            .map(|part| {
+                scope.spawn(move || {
+                    let folder = empty_folder(&format!("agree_{part}"));
+                    let mut seen = Seen::default();
+                    for seed in (first_seed() + part..first_seed() + CASES).step_by(THREADS as usize) {
+                        compare(seed, &folder, &mut seen);
+                    }
+                    fs::remove_dir_all(&folder).unwrap();
+                    seen
+                })
+            })
+            .collect();
+        for part in parts {
+            seen.add(part.join().unwrap());
         }
-        if !matches!(log.refusal, Some((_, 0))) {
-            *kinds.entry(case.kind).or_default() += 1;
-            full += u64::from(log.lines == 256);
-        }
-        let refusals = [log.refusal.map(|(number, _)| number), (expected.length.is_none()).then_some(20)];
-        for number in refusals.into_iter().flatten() {
-            *answered.entry(number).or_default() += 1;
-        }
-    }
-    fs::remove_dir_all(&folder).unwrap();
-    println!("{CASES} cases, {runs_of_program} runs of the program");
-    println!("answered {answered:?}\nprinted {printed_numbers:?}\nread {kinds:?}, {full} of 256 lines");
+    });
+    println!("{} cases, each with a run of the program", seen.cases);
+    println!("answered {:?}\nprinted {:?}\nread {:?}, {} of 256 lines", seen.answered, seen.printed, seen.kinds, seen.full);
+    assert_eq!(seen.cases, CASES);
     let with_20: Vec<u8> = PRINTED.into_iter().chain([20]).collect();
-    assert_eq!(answered.into_keys().collect::<Vec<u8>>(), with_20);
-    assert_eq!(printed_numbers.into_keys().collect::<Vec<u8>>(), PRINTED);
+    assert_eq!(seen.answered.into_keys().collect::<Vec<u8>>(), with_20);
+    assert_eq!(seen.printed.into_keys().collect::<Vec<u8>>(), PRINTED);
     for kind in ["no bytes", "short", "middling", "128 runs", "64 labels", "labels with one first place", "random bytes"] {
-        assert!(kinds[kind] >= 100, "{kind}");
+        assert!(seen.kinds[kind] >= 100, "{kind}");
     }
-    assert!(full >= 100);
+    assert!(seen.full >= 100);
 }
 
 #[test]

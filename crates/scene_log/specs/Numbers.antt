@@ -6,12 +6,16 @@ use mathlib.Core.List.{List}
 use lib.ListN.{length}
 use Rattle.relations.specs.declared.Composed.{Composed}
 use Rattle.relations.specs.declared.Composed.the-variants as Composed
+use Rattle.relations.specs.declared.Related.{Related}
+use Rattle.relations.specs.declared.Related.the-variants as Related
 use Rattle.relations.specs.Sets.{conversedOf}
 use Rattle.relations.specs.Runs.{Conversed}
 use Rattle.relations.specs.Compose.{composedOf, Demand3}
 use Rattle.monitor.specs.declared.Ending.{Ending}
 use Rattle.monitor.specs.declared.Ending.the-variants.{Read, Refused}
 use Rattle.monitor.specs.declared.LogChecked.{LogChecked}
+use Rattle.monitor.specs.declared.Outcome.{Outcome}
+use Rattle.monitor.specs.declared.Outcome.the-variants as Outcome
 use Rattle.monitor.specs.Log.{logOf, ChecksLog}
 use Rattle.report.specs.declared.Reported.{Reported}
 use Rattle.report.specs.declared.Reported.the-variants as Reported
@@ -32,6 +36,19 @@ pub record ComposesNumbers (a b n : ℕ) : Type 0 where
 pub record ConversesNumber (a n : ℕ) : Type 0 where
   pub answer : n ≡ setNumber (conversedOf a)
   pub meaning : Conversed a (conversedOf a)
+
+-- ── two runs ──
+-- "their one relation by its number", or 256 more than the refusal
+abbrev pub relationNumber : Related → ℕ
+relationNumber (Related.Relation n) = n
+relationNumber (Related.Refused n) = 256 + n
+
+-- ── one line ──
+-- "1 holds, 0 fails", or 65,536 times the refusal
+abbrev pub outcomeNumber : Outcome → ℕ
+outcomeNumber Outcome.Holds = 1
+outcomeNumber Outcome.Fails = 0
+outcomeNumber (Outcome.Refused n) = n * 65536
 
 -- ── a whole log ──
 -- the refusal, or 0 for a log that is read to its end

@@ -3,38 +3,28 @@ use Rattle.scene_log.proofs.Numbered.{read-whole, refused-at}
 use borrow.Author.Needs.{needs}
 use Rattle.scene_log.proofs.log_number.Statement.{statement}
 use Rattle.scene_log.proofs.log_number.Tie as tie
-use Rattle.scene_log.proofs.log_number.Reads as reads
-use Rattle.scene_log.proofs.log_number.Lts as lts
 
--- src/lib.rt:35:17
 cast-lines : tie.Need-cast-lines
 cast-lines c = search needs
 
--- src/lib.rt:37:25
 enum-told : tie.Need-enum-told
 enum-told c = search needs
 
--- src/lib.rt:37:25
 returns : tie.Need-returns
 returns c = search read-whole
 
--- src/lib.rt:38:27
 enum-known-ending : tie.Need-enum-known-ending
 enum-known-ending c = search needs
 
--- src/lib.rt:38:56
 cast-result : tie.Need-cast-result
 cast-result c = search needs
 
--- src/lib.rt:38:55
 mul-result : tie.Need-mul-result
 mul-result c = search needs
 
--- src/lib.rt:38:55
 add-result : tie.Need-add-result
 add-result c = search needs
 
--- src/lib.rt:38:48
 returns-2 : tie.Need-returns-2
 returns-2 c = search refused-at
 

@@ -3,28 +3,19 @@ use Rattle.scene_log.proofs.Numbered.{above, converses}
 use borrow.Author.Needs.{needs}
 use Rattle.scene_log.proofs.scene_log_converse.Statement.{statement}
 use Rattle.scene_log.proofs.scene_log_converse.Tie as tie
-use Rattle.scene_log.proofs.scene_log_converse.Reads as reads
-use Rattle.scene_log.proofs.scene_log_converse.Lts as lts
-use Rattle.relations.proofs.converse.Reads as converse-reads
-use Rattle.scene_log.proofs.set_number.Reads as set-number-reads
 
--- src/lib.rt:93:9
 returns : tie.Need-returns
 returns c = search above
 
--- src/lib.rt:95:33
 cast-converse : tie.Need-cast-converse
 cast-converse c = search needs
 
--- src/lib.rt:95:9
 converse-requires : tie.Need-converse-requires
 converse-requires c κs = search needs
 
--- src/lib.rt:96:5
 set-number-requires : tie.Need-set-number-requires
 set-number-requires c κs = search needs
 
--- src/lib.rt:88:1
 returns-2 : tie.Need-returns-2
 returns-2 c = search converses
 

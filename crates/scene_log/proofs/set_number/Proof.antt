@@ -3,34 +3,25 @@ use Rattle.scene_log.proofs.Numbered.{refused-set}
 use borrow.Author.Needs.{needs}
 use Rattle.scene_log.proofs.set_number.Statement.{statement}
 use Rattle.scene_log.proofs.set_number.Tie as tie
-use Rattle.scene_log.proofs.set_number.Reads as reads
-use Rattle.scene_log.proofs.set_number.Lts as lts
 
--- src/lib.rt:24:23
 enum-known-c : tie.Need-enum-known-c
 enum-known-c c = search needs
 
--- src/lib.rt:24:36
 cast-result : tie.Need-cast-result
 cast-result c = search needs
 
--- src/lib.rt:24:29
 returns : tie.Need-returns
 returns c = search needs
 
--- src/lib.rt:25:27
 enum-known-c-2 : tie.Need-enum-known-c-2
 enum-known-c-2 c = search needs
 
--- src/lib.rt:25:46
 cast-result-2 : tie.Need-cast-result-2
 cast-result-2 c = search needs
 
--- src/lib.rt:25:40
 add-result : tie.Need-add-result
 add-result c = search needs
 
--- src/lib.rt:25:33
 returns-2 : tie.Need-returns-2
 returns-2 c = search refused-set
 

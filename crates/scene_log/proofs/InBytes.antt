@@ -1,0 +1,208 @@
+-- The ways out of the calls on a record in bytes. What is packed after a taken line is a record that accepted lines leave, so the
+-- next call reads it back whole.
+use Prim.Native.Nat.{ℕ, _+_, _*_, _<_, _≤_}
+use mathlib.Core.Path.{_≡_, refl, ap, sym, subst, _∙_}
+use mathlib.Core.List.{List, [], _++_}
+use native.Mathlib.Omega.{arith}
+use lib.ListN.{length, drop}
+use borrow.Author.Tests.{lt-ltb, le-ltb}
+use Rattle.lists.proofs.Cases.{either-lt}
+use Rattle.trace.specs.declared.Record.{Record}
+use Rattle.trace.specs.Trace.{Trace, noTrace, runNo, Accepted}
+use Rattle.trace.specs.Record.{recordOf, Valid}
+use Rattle.trace.proofs.Grown.{no-bytes}
+use Rattle.trace.proofs.Bounds.{accepted-bounded}
+use Rattle.pairs.specs.declared.Started.{Started}
+use Rattle.pairs.specs.declared.Start.the-variants as Start
+use Rattle.pairs.specs.Pairs.{workOf}
+use Rattle.pairs.specs.Start.{startOf}
+use Rattle.relations.specs.declared.Related.{Related}
+use Rattle.relations.specs.declared.Related.the-variants as Related
+use Rattle.relations.specs.Runs.{relateIn, Relating}
+use Rattle.relations.proofs.Runs.{not-finished, answers}
+use Rattle.logic.specs.declared.Verdict.{Verdict}
+use Rattle.logic.specs.declared.Verdict.the-variants as Verdict
+use Rattle.monitor.specs.declared.Outcome.{Outcome}
+use Rattle.monitor.specs.declared.Outcome.the-variants.{Holds, Fails, Refused}
+use Rattle.monitor.specs.declared.Checked.{Checked}
+use Rattle.monitor.specs.Handed.{Left}
+use Rattle.monitor.specs.Line.{judged, ChecksLine}
+use Rattle.monitor.proofs.Repeated.{left-by}
+use Rattle.record_bytes.specs.declared.Outcome.{Outcome as Packed}
+use Rattle.record_bytes.specs.declared.Unpacked.{Unpacked}
+use Rattle.record_bytes.specs.Form.{recordSize, recordBytes, recordFrom}
+use Rattle.record_bytes.specs.Calls.{unpackOf, packOf, Unpacks, Packs}
+use Rattle.record_bytes.proofs.Carried.{packed-and-unpacked}
+use Rattle.scene_log.specs.Numbers.{outcomeNumber, relationNumber}
+use Rattle.scene_log.specs.InBytes.{recordIn, startNumbered, StartsNumber, bytesAfter, lineNumbered, ChecksBytes, ChecksLineNumber, runByte, NumbersRuns, RelatesBytes, RelatesNumber}
+
+-- ── a buffer that is long enough ──
+packed : (r : Record) (b : List ℕ) (p : Packed) (b′ : List ℕ) → recordSize ≤ length b → Packs r b p b′ → b′ ≡ recordIn r b
+unfolding packOf
+packed r b p b′ h k = ap (λ (z : Packed × List ℕ). z .1) (k .answer) ∙ simp (le-ltb _ _ h)
+
+unpacked : (b : List ℕ) (u : Unpacked) → recordSize ≤ length b → Unpacks b u → u .state ≡ recordFrom b
+unfolding unpackOf
+unpacked b u h k = ap (λ (z : Unpacked). z .state) (k .answer) ∙ simp (le-ltb _ _ h)
+
+-- the record and the work area that the lines of a log leave, the record in bytes
+left-in-bytes : (log : List ℕ) (t : Trace) → Accepted log t → (r : Record) → r ≡ recordOf t → (b b′ w w′ : List ℕ)
+    → b′ ≡ recordIn r b → w′ ≡ workOf (t .runs) w → Left log t (recordFrom b′) w′
+left-in-bytes log t a r e b b′ w w′ p q =
+    let v : Valid r = record { log = log; trace = t; accepted = a; encoded = e } in
+    record {
+      accepted = a;
+      encoded = ap recordFrom p ∙ (packed-and-unpacked r v (drop recordSize b) ∙ e);
+      pairs = subst (λ (x : List ℕ). x ≡ workOf (t .runs) x) (sym q) (left-by log t a w .pairs);
+    }
+
+-- ── the start of a record ──
+module _ (b w : List ℕ) where
+  pub start-no-record : length b < recordSize → StartsNumber b w 20 b w
+  unfolding startNumbered
+  start-no-record h = record { answer = simp (lt-ltb _ _ h); meaning = λ e. absurd (omega arith) }
+
+  module _ (long : recordSize ≤ length b) (s : Started) (w′ : List ℕ) (e : _≡_ {A = Started × List ℕ} (s, w′) (startOf w)) where
+    abbrev is : (a : Started) (v : List ℕ) → Type 0
+    is a v = (s .outcome ≡ a .outcome) × (s .state ≡ a .state) × (w′ ≡ v)
+
+    parts : (a : Started) (v : List ℕ) → startOf w ≡ (a, v) → is a v
+    parts a v q =
+        let p = e ∙ q in (
+          ap (λ (z : Started × List ℕ). z .0 .outcome) p,
+          ap (λ (z : Started × List ℕ). z .0 .state) p,
+          ap (λ (z : Started × List ℕ). z .1) p,
+        )
+
+    short : length w < 16384 → is (record { state = recordOf noTrace; outcome = Start.Refused 20 }) w
+    unfolding startOf
+    short h = parts _ w (simp (lt-ltb _ _ h))
+
+    ready : 16384 ≤ length w → is (record { state = recordOf noTrace; outcome = Start.Ready }) (workOf [] w)
+    unfolding startOf
+    ready h = parts _ (workOf [] w) (simp (le-ltb _ _ h))
+
+    pub start-no-work : (n : ℕ) → s .outcome ≡ Start.Refused n → StartsNumber b w n b w′
+    unfolding startNumbered
+    start-no-work n q =
+        either-lt (length w) 16384
+        (λ h.
+        let k = short h in
+        let m : n ≡ 20 = cc in
+        record { answer = simp (le-ltb _ _ long, lt-ltb _ _ h) (λ j. (m j, b, k .2 j)); meaning = λ z. absurd (omega arith) })
+        (λ h. let k = ready h in absurd (let z : _≡_ {A = ℕ} 0 1 = cc in omega arith))
+
+    pub start-both : s .outcome ≡ Start.Ready → (p : Packed) (b′ : List ℕ) → Packs (s .state) b p b′ → StartsNumber b w 0 b′ w′
+    unfolding startNumbered
+    start-both q p b′ k =
+        either-lt (length w) 16384
+        (λ h. let m = short h in absurd (let z : _≡_ {A = ℕ} 0 1 = cc in omega arith))
+        (λ h.
+        let m = ready h in
+        let put : b′ ≡ recordIn (s .state) b = packed (s .state) b p b′ long k in
+        record {
+          answer = simp (le-ltb _ _ long, le-ltb _ _ h) (λ j. (0, (put ∙ ap (λ (r : Record). recordIn r b) (m .1)) j, m .2 j));
+          meaning = λ _. left-in-bytes [] noTrace no-bytes (s .state) (m .1) b b′ w w′ put (m .2);
+        })
+
+-- ── one line ──
+module _ (c : Checked) (b : List ℕ) where
+  numbered : (o : Outcome) → c .outcome ≡ o → _≡_ {A = ℕ × List ℕ} (outcomeNumber o, bytesAfter o (c .state) b) (lineNumbered c b)
+  numbered o e = sym (ap (λ (x : Outcome). (outcomeNumber x, bytesAfter x (c .state) b)) e)
+
+  pub kept-refused : (n : ℕ) → c .outcome ≡ Refused n → _≡_ {A = ℕ × List ℕ} (n * 65536, b) (lineNumbered c b)
+  kept-refused n e = numbered (Refused n) e
+
+  module _ (long : recordSize ≤ length b) (p : Packed) (b′ : List ℕ) (k : Packs (c .state) b p b′) where
+    pub kept-holds : c .outcome ≡ Holds → _≡_ {A = ℕ × List ℕ} (1, b′) (lineNumbered c b)
+    kept-holds e = ap (λ (x : List ℕ). (1, x)) (packed (c .state) b p b′ long k) ∙ numbered Holds e
+
+    pub kept-fails : c .outcome ≡ Fails → _≡_ {A = ℕ × List ℕ} (0, b′) (lineNumbered c b)
+    kept-fails e = ap (λ (x : List ℕ). (0, x)) (packed (c .state) b p b′ long k) ∙ numbered Fails e
+
+-- the bytes of a line that is taken hold its record
+taken-bytes : (o : Outcome) (v : Verdict) (r : Record) (b : List ℕ) → o ≡ judged v → bytesAfter o r b ≡ recordIn r b
+taken-bytes o Verdict.Holds r b e = ap (λ (x : Outcome). bytesAfter x r b) e
+taken-bytes o Verdict.Fails r b e = ap (λ (x : Outcome). bytesAfter x r b) e
+
+module _ (file b w line : List ℕ) where
+  pub line-no-record : length b < recordSize → ChecksLineNumber file b w line (20 * 65536) b w
+  line-no-record h = record { short = λ _. refl; long = λ g. absurd (omega arith) }
+
+  checks-bytes : (c : Checked) (n : ℕ) (b′ w′ : List ℕ) → ChecksLine file (recordFrom b) w line c w′
+      → _≡_ {A = ℕ × List ℕ} (n, b′) (lineNumbered c b) → ChecksBytes file b w line n b′ w′
+  checks-bytes c n b′ w′ k e =
+      record {
+        checked = c;
+        checks = k;
+        answer = e;
+        goes-on = λ x q log t l v j.
+            let taken = k .meaning x q log t l .taken v j in
+            let put : b′ ≡ recordIn (c .state) b = ap (λ (z : ℕ × List ℕ). z .1) e ∙ taken-bytes (c .outcome) v (c .state) b j in (
+              taken .trace,
+              left-in-bytes (log ++ line) (taken .trace) (taken .accepted) (c .state) (taken .state) b b′ w w′ put (taken .pairs),
+            );
+      }
+
+  pub line-checked : recordSize ≤ length b → (u : Unpacked) → Unpacks b u → (c : Checked) (w′ : List ℕ) → ChecksLine file (u .state) w line c w′
+      → (n : ℕ) (b′ : List ℕ) → _≡_ {A = ℕ × List ℕ} (n, b′) (lineNumbered c b) → ChecksLineNumber file b w line n b′ w′
+  line-checked h u p c w′ k n b′ e =
+      let same : ChecksLine file (recordFrom b) w line c w′ = subst (λ (r : Record). ChecksLine file r w line c w′) (unpacked b u h p) k in
+      record { short = λ g. absurd (omega arith); long = λ _. checks-bytes c n b′ w′ same e }
+
+-- ── two runs ──
+pub byte-above : (a : ℕ) → 255 < a → 255 ≡ runByte a
+byte-above a h = simp (lt-ltb _ _ h)
+
+pub byte-same : (a : ℕ) → a ≤ 255 → a ≡ runByte a
+byte-same a h = simp (le-ltb _ _ h)
+
+pub refused-relation : (w : Related) (n : ℕ) → w ≡ Related.Refused n → 256 + n ≡ relationNumber w
+refused-relation w n e = sym (ap relationNumber e)
+
+-- no run has a number above 127, so the numbers above 255 are as good as 255
+module _ (t : Trace) (few : length (t .runs) ≤ 128) (x y : ℕ) where
+  neither : (a b : ℕ) → 128 ≤ a → Related.Refused 22 ≡ relateIn t a b
+  neither a b h = not-finished t a b (λ f. omega (arith, f .0 .begun))
+
+  nor : (a b : ℕ) → 128 ≤ b → Related.Refused 22 ≡ relateIn t a b
+  nor a b h = not-finished t a b (λ f. omega (arith, f .1 .begun))
+
+  runs-as-bytes : relateIn t (runByte x) (runByte y) ≡ relateIn t x y
+  runs-as-bytes =
+      either-lt 255 x
+      (λ h. sym (neither (runByte x) (runByte y) (omega (arith, byte-above x h))) ∙ neither x y (omega arith))
+      (λ h. either-lt 255 y
+      (λ g. sym (nor (runByte x) (runByte y) (omega (arith, byte-above y g))) ∙ nor x y (omega arith))
+      (λ g. sym (λ i. relateIn t (byte-same x h i) (byte-same y g i))))
+
+module _ (b : List ℕ) (x y : ℕ) where
+  pub relate-no-record : length b < recordSize → RelatesNumber b x y (256 + 20)
+  relate-no-record h = record { short = λ _. refl; long = λ g. absurd (omega arith) }
+
+  numbers-runs : (log : List ℕ) (t : Trace) → Accepted log t → (w : Related) → w ≡ relateIn t (runByte x) (runByte y)
+      → (n : ℕ) → n ≡ relationNumber w → NumbersRuns t x y n
+  numbers-runs log t a w e n q =
+      record {
+        answer = q ∙ ap relationNumber (e ∙ runs-as-bytes t (accepted-bounded log t a .runs) x y);
+        meaning = answers log t a x y (relateIn t x y) refl;
+      }
+
+  relates-bytes : (w : Related) → Relating (recordFrom b) (runNo (runByte x)) (runNo (runByte y)) w → (n : ℕ) → n ≡ relationNumber w → RelatesBytes b x y n
+  relates-bytes w k n q =
+      record {
+        decided = k .decided;
+        known = λ log t a e. numbers-runs log t a w (k .known log t a e .answer) n q;
+        unknown = λ v. q ∙ ap relationNumber (k .unknown v);
+      }
+
+  pub relate-known : recordSize ≤ length b → (u : Unpacked) → Unpacks b u → (x′ : ℕ) → x′ ≡ runByte x → (y′ : ℕ) → y′ ≡ runByte y
+      → (w : Related) → Relating (u .state) (runNo x′) (runNo y′) w → (n : ℕ) → n ≡ relationNumber w → RelatesNumber b x y n
+  relate-known h u p x′ ex y′ ey w k n q =
+      let same : Relating (recordFrom b) (runNo (runByte x)) (runNo (runByte y)) w =
+      subst (λ (z : Record × ℕ × ℕ). Relating (z .0) (runNo (z .1)) (runNo (z .2)) w) (λ i. (unpacked b u h p i, ex i, ey i)) k in
+      record { short = λ g. absurd (omega arith); long = λ _. relates-bytes w same n q }
+
+pub ruleset starts = (start-no-record, start-no-work, start-both)
+
+pub ruleset kept = (kept-refused, kept-holds, kept-fails)

@@ -1,0 +1,271 @@
+//! The calls on a record in bytes agree with the reference: one line, the start of a record, the relation of two runs.
+//!
+//! The bytes of a record are put together here, from their form as `include/scene_log.h` has it.
+
+use generate::random::Random;
+use generate::{case, Case};
+use proved::{Check, RECORD_BYTES, WORK_BYTES};
+use reference::calls::{check_line, relation_between, start_record};
+use reference::record::{first_place, record_of, Record};
+use reference::trace::accepted_lines;
+use std::collections::{BTreeMap, BTreeSet};
+use std::fs;
+use std::path::Path;
+
+/// Single-line cases, and logs that are read line by line.
+const CASES: u64 = 8_000;
+const LOGS: u64 = 800;
+
+/// The seed of the first case; the variable FIRST_SEED of the environment names another one, for other cases.
+fn first_seed() -> u64 {
+    std::env::var("FIRST_SEED").map_or(0, |text| text.parse().expect("FIRST_SEED is a number"))
+}
+
+/// A number of 16 bits, low byte first.
+fn two_bytes(number: u64) -> [u8; 2] {
+    u16::try_from(number).expect("a number of 16 bits").to_le_bytes()
+}
+
+/// The bytes of a record: "the number of lines, low byte first; the numbers of runs and of labels, a byte each; for each of 128
+/// runs, 7 bytes: id, begin line and end line, low byte first, and the label's number; for each of 64 labels, its length and its
+/// 24 bytes; the 128 places".
+fn bytes_of(record: &Record) -> Vec<u8> {
+    let runs = record.runs.iter().filter(|run| run.id != 0).count();
+    let labels = record.labels.iter().filter(|label| label.length != 0).count();
+    let mut bytes = two_bytes(record.lines).to_vec();
+    bytes.extend([runs as u8, labels as u8]);
+    for run in &record.runs {
+        bytes.extend([two_bytes(run.id), two_bytes(run.begin), two_bytes(run.end)].concat());
+        bytes.push(run.label.try_into().expect("a number of 8 bits"));
+    }
+    for label in &record.labels {
+        bytes.push(label.length);
+        bytes.extend(label.bytes);
+    }
+    bytes.extend(record.places);
+    bytes
+}
+
+/// What has been done to the bytes of a case's record.
+#[derive(Clone, Copy, PartialEq, Debug)]
+enum Damage {
+    None,
+    /// Too few bytes: 20.
+    Short,
+    /// A number of runs or labels that is not the record's: 21.
+    Count,
+}
+
+/// The bytes of a case's record with a few behind them, now and then damaged.
+fn lent_record(random: &mut Random, record: &Record) -> (Vec<u8>, Damage) {
+    let mut bytes = bytes_of(record);
+    assert_eq!(bytes.len(), RECORD_BYTES);
+    let more = random.below(6);
+    bytes.extend(random.bytes(more));
+    match random.below(40) {
+        0 => {
+            bytes.truncate(*random.pick(&[0, 1, 4, 900, 2500, RECORD_BYTES - 1]));
+            (bytes, Damage::Short)
+        }
+        1..=2 => {
+            let at = random.between(2, 3);
+            bytes[at] = bytes[at].wrapping_add(random.between(1, 255) as u8);
+            (bytes, Damage::Count)
+        }
+        _ => (bytes, Damage::None),
+    }
+}
+
+/// What a call answers, and what it leaves in its buffers.
+#[derive(PartialEq, Debug)]
+struct Left<A> {
+    answer: A,
+    record: Vec<u8>,
+    work: Vec<u8>,
+}
+
+/// What the reference makes of the line. A record whose counts are wrong is one that no lines leave: the reference is asked
+/// with a line count that no lines leave, so that 21 stands in the order of the refusals.
+fn line_by_reference(case: &Case, bytes: &[u8], damage: Damage) -> Left<Result<bool, u8>> {
+    let unchanged = |answer| Left { answer, record: bytes.to_vec(), work: case.work.clone() };
+    if damage == Damage::Short {
+        return unchanged(Err(20));
+    }
+    let mut handed_in = case.record.clone();
+    if damage == Damage::Count {
+        handed_in.lines = 60_000;
+    }
+    let mut work = case.work.clone();
+    let answer = check_line(&case.rule, &handed_in, &mut work, &case.line);
+    if answer.verdict.is_err() {
+        assert!(work == case.work);
+        return unchanged(answer.verdict);
+    }
+    let record = [bytes_of(&answer.record), bytes[RECORD_BYTES..].to_vec()].concat();
+    Left { answer: answer.verdict, record, work }
+}
+
+fn line_by_library(case: &Case, bytes: &[u8]) -> Left<Result<bool, u8>> {
+    let (mut record, mut work) = (bytes.to_vec(), case.work.clone());
+    let answer = proved::check_line(&case.rule, &mut record, &mut work, &case.line);
+    Left { answer, record, work }
+}
+
+#[test]
+fn library_and_reference_agree_on_single_lines() {
+    let mut answered: BTreeMap<Result<bool, u8>, u64> = BTreeMap::new();
+    let mut counts_refused = 0;
+    for seed in first_seed()..first_seed() + CASES {
+        let case = case(seed);
+        let (bytes, damage) = lent_record(&mut Random::new(!seed), &case.record);
+        let expected = line_by_reference(&case, &bytes, damage);
+        let rule: String = case.rule.iter().map(|byte| format!("{byte:02x}")).collect();
+        assert!(
+            line_by_library(&case, &bytes) == expected,
+            "seed {seed}, {damage:?}, expected {:?}\nrule {rule}\nline {}",
+            expected.answer,
+            case.line.escape_ascii()
+        );
+        counts_refused += u64::from(damage == Damage::Count && expected.answer == Err(21));
+        *answered.entry(expected.answer).or_default() += 1;
+    }
+    println!("{CASES} single lines: {answered:?}, {counts_refused} refused for a count alone");
+    let refusals: Vec<u8> = answered.keys().filter_map(|answer| answer.err()).collect();
+    assert_eq!(refusals, [1, 2, 3, 4, 5, 6, 7, 8, 9, 10, 11, 12, 13, 15, 16, 17, 18, 19, 20, 21]);
+    assert!(answered[&Ok(true)] >= 500 && answered[&Ok(false)] >= 500);
+    assert!(counts_refused >= 100);
+}
+
+#[test]
+fn library_and_reference_agree_on_the_start_of_a_record() {
+    let mut refused = BTreeSet::new();
+    for seed in first_seed()..first_seed() + LOGS {
+        let case = case(seed);
+        let random = &mut Random::new(!seed);
+        let length = *random.pick(&[0, 1, RECORD_BYTES - 1, RECORD_BYTES, RECORD_BYTES, RECORD_BYTES, RECORD_BYTES + 9]);
+        let before = random.bytes(length);
+        let mut expected = Left { answer: Err(20), record: before.clone(), work: case.start_work.clone() };
+        if length >= RECORD_BYTES {
+            if let Ok(record) = start_record(&mut expected.work) {
+                expected.answer = Ok(());
+                expected.record[..RECORD_BYTES].copy_from_slice(&bytes_of(&record));
+            }
+        }
+        let (mut record, mut work) = (before, case.start_work);
+        let answer = proved::start(&mut record, &mut work);
+        let short = (record.len() < RECORD_BYTES, work.len() < WORK_BYTES);
+        assert!(Left { answer, record, work } == expected, "seed {seed}");
+        refused.insert((short, answer));
+    }
+    let expected = [((false, false), Ok(())), ((false, true), Err(20)), ((true, false), Err(20)), ((true, true), Err(20))];
+    assert_eq!(refused.into_iter().collect::<Vec<_>>(), expected);
+}
+
+#[test]
+fn library_and_reference_agree_on_the_relation_of_two_runs() {
+    let mut answered: BTreeMap<Result<u8, u8>, u64> = BTreeMap::new();
+    for seed in first_seed()..first_seed() + CASES {
+        let case = case(seed);
+        let random = &mut Random::new(!seed);
+        let (bytes, damage) = lent_record(random, &case.record);
+        // Numbers that are the run's own in their low bits, and above 255 as a whole.
+        let far = *random.pick(&[256, 512, 65536, 1 << 31]);
+        let number = |run: u64| u32::try_from(run).unwrap();
+        let (a, b) = (number(case.runs.0), number(case.runs.1));
+        for (first, second) in [(a, b), (a + far, b), (a, b + far), (a + far, b + far), (u32::MAX, u32::MAX)] {
+            let expected = match damage {
+                Damage::Short => Err(20),
+                Damage::Count => Err(21),
+                Damage::None => relation_between(&case.record, first.into(), second.into()),
+            };
+            assert_eq!(proved::relate(&bytes, first, second), expected, "seed {seed}, {damage:?}, runs {first}, {second}");
+            *answered.entry(expected).or_default() += 1;
+        }
+    }
+    println!("relations of two runs: {answered:?}");
+    let answers: Vec<Result<u8, u8>> = answered.into_keys().collect();
+    let relations = [1, 2, 4, 8, 16, 32].map(Ok);
+    let refusals = [20, 21, 22, 23].map(Err);
+    assert_eq!(answers, [relations.to_vec(), refusals.to_vec()].concat());
+}
+
+/// The whole-log call is the repeated single-line call: the same verdicts, the same refusal at the same line, the same work area,
+/// and the record that the reference has.
+#[test]
+fn a_log_line_by_line_is_the_log_at_once() {
+    let (mut logs, mut refused, mut lines, mut longest) = (0, 0, 0, 0);
+    for seed in first_seed()..first_seed() + LOGS {
+        let case = case(seed);
+        let (mut work, mut verdicts) = (vec![0; WORK_BYTES], vec![7; 256]);
+        let whole = proved::check_log(&case.rule, &case.log, &mut work, &mut verdicts);
+        if whole.refused_line() == Some(0) {
+            continue;
+        }
+        let mut check = Check::start();
+        let mut taken = Vec::new();
+        let mut refusal = None;
+        for line in case.log.split_inclusive(|byte| *byte == b'\n') {
+            match check.line(&case.rule, line) {
+                Ok(holds) => taken.push(u8::from(holds)),
+                Err(number) => {
+                    refusal = Some(number);
+                    break;
+                }
+            }
+        }
+        assert_eq!((taken.len(), refusal), (usize::from(whole.lines), whole.refusal), "seed {seed}");
+        assert!(taken == verdicts[..taken.len()] && verdicts[taken.len()..].iter().all(|byte| *byte == 7), "seed {seed}");
+        assert!(check.work[..] == work[..], "seed {seed}");
+        let (accepted, _) = accepted_lines(&case.log);
+        assert!(check.record[..] == bytes_of(&record_of(&accepted))[..], "seed {seed}");
+        logs += 1;
+        refused += u64::from(refusal.is_some());
+        lines += taken.len();
+        longest = longest.max(taken.len());
+    }
+    println!("{logs} logs line by line, {refused} refused at a line, {lines} lines taken, {longest} at most");
+    assert!(logs >= 500 && refused >= 100 && logs - refused >= 100 && longest == 256);
+}
+
+/// P1, worked out by hand: verdicts, pair byte, record, relations.
+#[test]
+fn p1_line_by_line() {
+    let folder = Path::new(env!("CARGO_MANIFEST_DIR")).join("../../examples/p1");
+    let rule = fs::read(folder.join("rule.rul")).unwrap();
+    let mut check = Check::start();
+    assert!(check.record.iter().chain(check.work.iter()).all(|byte| *byte == 0));
+    assert_eq!(check.relate(0, 1), Err(22));
+    let lines = [("B 7 EVENING\n", true, 0), ("B 9 TEST\n", true, 1), ("E 9\n", true, 4), ("E 7\n", false, 7)];
+    for (line, holds, pair_byte) in lines {
+        assert_eq!(check.line(&rule, line.as_bytes()), Ok(holds), "{line}");
+        assert_eq!(check.work[1], pair_byte, "{line}");
+    }
+    let mut record = [0; RECORD_BYTES];
+    record[..4].copy_from_slice(&[4, 0, 2, 2]);
+    record[4..11].copy_from_slice(&[7, 0, 1, 0, 4, 0, 1]);
+    record[11..18].copy_from_slice(&[9, 0, 2, 0, 3, 0, 2]);
+    record[900..908].copy_from_slice(b"\x07EVENING");
+    record[925..930].copy_from_slice(b"\x04TEST");
+    record[2500 + first_place(b"EVENING")] = 1;
+    record[2500 + first_place(b"TEST")] = 2;
+    assert!(*check.record == record);
+    // Run 0 includes run 1.
+    assert_eq!((check.relate(0, 1), check.relate(1, 0)), (Ok(16), Ok(32)));
+    assert_eq!((check.relate(0, 0), check.relate(0, 2)), (Err(23), Err(22)));
+    assert_eq!((check.relate(256, 1), check.relate(0, 257), check.relate(256, 256)), (Err(22), Err(22), Err(22)));
+    // A refused line changes nothing: an id begun before, an id above the range, a line without LF.
+    let before = check.clone();
+    for (line, number) in [("B 7\n", 15), ("E 7\n", 17), ("E 8\n", 16), ("B 65536\n", 12), ("B 8", 11), ("B 8 x\n", 13)] {
+        assert_eq!(check.line(&rule, line.as_bytes()), Err(number), "{line}");
+    }
+    assert_eq!(check.line(b"RUX", b"B 8\n"), Err(2));
+    assert!(check == before);
+    // One pair byte is changed, and no lines leave what is handed in. The relation is that of the record alone.
+    check.work[1] = 6;
+    assert_eq!((check.line(&rule, b"B 8\n"), check.relate(0, 1)), (Err(21), Ok(16)));
+    check.work[1] = 7;
+    assert!(check == before);
+    // Both runs have id 7, and 21 comes before 22.
+    check.record[11] = 7;
+    assert_eq!((check.line(&rule, b"B 8\n"), check.relate(0, 1), check.relate(300, 1)), (Err(21), Err(21), Err(21)));
+}

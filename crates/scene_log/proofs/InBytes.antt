@@ -162,18 +162,18 @@ refused-relation w n e = sym (ap relationNumber e)
 
 -- no run has a number above 127, so the numbers above 255 are as good as 255
 module _ (t : Trace) (few : length (t .runs) ≤ 128) (x y : ℕ) where
-  neither : (a b : ℕ) → 128 ≤ a → Related.Refused 22 ≡ relateIn t a b
-  neither a b h = not-finished t a b (λ f. omega (arith, f .0 .begun))
+  first-is-none : (a b : ℕ) → 128 ≤ a → Related.Refused 22 ≡ relateIn t a b
+  first-is-none a b h = not-finished t a b (λ f. omega (arith, f .0 .begun))
 
-  nor : (a b : ℕ) → 128 ≤ b → Related.Refused 22 ≡ relateIn t a b
-  nor a b h = not-finished t a b (λ f. omega (arith, f .1 .begun))
+  second-is-none : (a b : ℕ) → 128 ≤ b → Related.Refused 22 ≡ relateIn t a b
+  second-is-none a b h = not-finished t a b (λ f. omega (arith, f .1 .begun))
 
   runs-as-bytes : relateIn t (runByte x) (runByte y) ≡ relateIn t x y
   runs-as-bytes =
       either-lt 255 x
-      (λ h. sym (neither (runByte x) (runByte y) (omega (arith, byte-above x h))) ∙ neither x y (omega arith))
+      (λ h. sym (first-is-none (runByte x) (runByte y) (omega (arith, byte-above x h))) ∙ first-is-none x y (omega arith))
       (λ h. either-lt 255 y
-      (λ g. sym (nor (runByte x) (runByte y) (omega (arith, byte-above y g))) ∙ nor x y (omega arith))
+      (λ g. sym (second-is-none (runByte x) (runByte y) (omega (arith, byte-above y g))) ∙ second-is-none x y (omega arith))
       (λ g. sym (λ i. relateIn t (byte-same x h i) (byte-same y g i))))
 
 module _ (b : List ℕ) (x y : ℕ) where

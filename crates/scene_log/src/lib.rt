@@ -1,7 +1,8 @@
 // The check for programs in other languages: functions on numbers and byte slices, under plain C names.
 //
 // A slice is a pointer and a length in C (`include/scene_log.h`). Every call takes any input. An answer that is an enum in the
-// library is a number here; `specs/Numbers.antt` says which.
+// library is a number here; `specs/Numbers.antt` says which. The carried record is 2,628 bytes, in the form of `record_bytes`;
+// `specs/InBytes.antt` has the contracts of the calls that take one.
 ghost use mathlib.Core.Path.{_≡_};
 ghost use Prim.Native.Nat.{_≤_};
 ghost use lib.ListN.{length};

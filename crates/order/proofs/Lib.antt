@@ -1,0 +1,5 @@
+pub mod Ending
+pub mod Counted
+pub mod Lines
+pub mod Marks
+pub mod Meaning

@@ -1,8 +1,8 @@
 -- The digits of a mask: of a mask with one variable, of two masks joined, and of one mask without another.
-use mathlib.Core.Path.{_≡_, refl, sym, subst, ap, _∙_}
-use mathlib.Core.Bool.{Bool, true, false, not, _&&_, _||_}
+use mathlib.Core.Path.{_≡_, refl, sym, ap, _∙_}
+use mathlib.Core.Bool.{Bool, not, _&&_, _||_}
 use Prim.Native.Nat.{ℕ, zero, suc, _+_, _-_, _*_, _/_, _%_, _^_, _≤_, _<_}
-use native.Mathlib.Nat.{le-refl, mod-lt, zero-lt-suc, pow-suc, div-eq-of-lt, one-mul, mul-mod-left}
+use native.Mathlib.Nat.{mod-lt, zero-lt-suc, pow-suc, div-eq-of-lt, one-mul, mul-mod-left}
 use native.Mathlib.Omega.{arith}
 use lib.Dec.{eqb}
 use lib.Pow.{pow-lt, pow-add, shl-shr}

@@ -8,7 +8,7 @@ use native.Mathlib.Numerals.{add-one}
 use native.Mathlib.Omega.{arith}
 use lib.Bits.{bitAnd, bitOr}
 use lib.Dec.{eqb}
-use lib.ListN.{length, getD}
+use lib.ListN.{getD}
 use Rattle.lists.proofs.Cases.{either-eq}
 use Rattle.rules.specs.Formula.{Formula}
 use Rattle.rules.specs.Limits.{maxNodes}
@@ -153,18 +153,22 @@ module _ (file : List ℕ) (p n : ℕ) (x : Node) (is : x ≡ nodeAt file p n) (
       (λ k. rw (formula-some file p n x is good k) (omega (arith, some-before k, below (x .b) (some-before k))))
       (λ n3. omega (arith, height-atom n1 n2 n3))))
 
+-- what holds of a node if it holds of all nodes before it, holds of every node
+pub by-node : (file : List ℕ) (p : ℕ) (P : ℕ → Type 0) → ((n : ℕ) → Good file p n → ((c : ℕ) → c < n → P c) → P n) → (m n : ℕ) → Good file p n → n < m → P n
+by-node file p P step zero n good h = absurd (omega arith)
+by-node file p P step (suc m) n good h = step n good (λ c l. by-node file p P step m c (good-child file p n c good l) (omega arith))
+
 -- the height of a node is at most its number: a "some" has a greater number than its child
-pub height-bound : (file : List ℕ) (p m n : ℕ) → Good file p n → n < m → height (formulaAt file p n) ≤ n
-height-bound file p zero n good h = absurd (omega arith)
-height-bound file p (suc m) n good h =
-    height-within file p n (nodeAt file p n) refl good (λ c l. height-bound file p m c (good-child file p n c good l) (omega arith))
+pub height-bound : (file : List ℕ) (p n : ℕ) → Good file p n → height (formulaAt file p n) ≤ n
+height-bound file p n good =
+    by-node file p (λ c. height (formulaAt file p c) ≤ c) (λ c g below. height-within file p c (nodeAt file p c) refl g below) (suc n) n good (omega arith)
 
 -- so it fits a byte, and one more does
 module _ (file : List ℕ) (p n : ℕ) (x : Node) (is : x ≡ nodeAt file p n) (good : Good file p n) (heights : List ℕ) (known : Passed Height file p n heights) where
   pub some-height-fits : x .kind ≡ 3 → n < maxNodes → getD heights (x .b) 0 < maxNodes
   some-height-fits k h =
       let l = some-before file p n x is good k in
-      omega (arith, known (x .b) l, height-bound file p n (x .b) (good-child file p n (x .b) good l) l)
+      omega (arith, known (x .b) l, height-bound file p (x .b) (good-child file p n (x .b) good l))
 
 pub ruleset children = (and-left-in, and-right-in, not-in, some-in)
 

@@ -1,5 +1,4 @@
 -- By the kind, the answer is that for the formula of the node.
-use borrow.Author.Needs.{needs}
 use Rattle.rules.proofs.Formulas.{good-room}
 use Rattle.shape.proofs.Nodes.{children, flats}
 use Rattle.shape.proofs.flat_node.Statement.{statement}

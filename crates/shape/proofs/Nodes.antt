@@ -16,8 +16,9 @@ use Rattle.rules.specs.Table.{nodeAt, Good, formulaAt}
 use Rattle.rules.specs.declared.Node.{Node}
 use Rattle.rules.proofs.Formulas.{by-kind, good-child, atom-fields, and-left-child, and-right-child, not-child, some-child, formula-and, formula-not, formula-some, formula-has, formula-before, formula-overlaps, formula-includes, formula-same}
 use Rattle.shape.specs.Shape.{flat?, free?, height}
-use Rattle.shape.specs.Tables.{bit, FlatFlag, FreeMask, Height, Passed}
-use Rattle.shape.proofs.Bits.{bit-or}
+use Rattle.sets.specs.Sets.{bit}
+use Rattle.shape.specs.Tables.{FlatFlag, FreeMask, Height, Passed}
+use Rattle.sets.proofs.Bits.{bit-or}
 
 flags-both : (s t : Bool) (a b : ℕ) → a ≡ cond s 1 0 → b ≡ cond t 1 0 → bitAnd a b ≡ cond (s && t) 1 0
 flags-both true true a b e f = ap₂ bitAnd e f

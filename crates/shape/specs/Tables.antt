@@ -1,17 +1,13 @@
 -- Tables of numbers, one for each node of a rule: what the number of a node says of its formula.
-use Prim.Native.Nat.{ℕ, _/_, _%_, _^_, _≤_, _<_}
+use Prim.Native.Nat.{ℕ, _≤_, _<_}
 use mathlib.Core.Path.{_≡_}
-use mathlib.Core.Bool.{Bool, cond}
+use mathlib.Core.Bool.{cond}
 use mathlib.Core.List.{List}
-use lib.Dec.{eqb}
 use lib.ListN.{getD}
+use Rattle.sets.specs.Sets.{bit}
 use Rattle.rules.specs.Formula.{Formula}
 use Rattle.rules.specs.Table.{formulaAt}
 use Rattle.shape.specs.Shape.{flat?, free?, height}
-
--- digit w of a mask
-unfoldable pub bit : ℕ → ℕ → Bool
-bit a w = eqb (a / 2 ^ w % 2) 1
 
 -- 1: no "some" in the formula
 abbrev pub FlatFlag : Formula → ℕ → Type 0

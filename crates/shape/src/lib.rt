@@ -10,7 +10,8 @@ ghost use lib.Dec.{eqb};
 ghost use lib.ListN.{length};
 ghost use Rattle.rules.specs.Limits.{variables, maxNodes};
 ghost use Rattle.rules.specs.Table.{Good, formulaAt};
-ghost use Rattle.shape.specs.Tables.{bit, FlatFlag, FreeMask, Height, Passed, TableOf};
+ghost use Rattle.sets.specs.Sets.{bit};
+ghost use Rattle.shape.specs.Tables.{FlatFlag, FreeMask, Height, Passed, TableOf};
 use rules::MAX_NODES;
 use rules::table::node_at;
 

@@ -1,5 +1,5 @@
 -- Digit by digit.
-use Rattle.shape.proofs.Bits.{bit-less}
+use Rattle.sets.proofs.Bits.{bit-less}
 use Rattle.shape.proofs.without.Statement.{statement}
 use Rattle.shape.proofs.without.Tie as tie
 

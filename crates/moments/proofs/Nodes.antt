@@ -1,0 +1,64 @@
+-- The moments of a node, from those of its children and from the rows.
+use Prim.Native.Nat.{ℕ, _<_}
+use mathlib.Core.Path.{_≡_, refl, sym, subst, ap, _∙_}
+use mathlib.Core.Bool.{Bool, true, false, not, _&&_, and-assoc}
+use mathlib.Core.List.{List}
+use Rattle.sets.specs.Sets.{mem}
+use Rattle.sets.specs.declared.RunSet.{RunSet}
+use Rattle.rules.specs.Formula.{exists}
+use Rattle.rules.specs.Parts.{labelCount}
+use Rattle.rules.specs.Table.{opOf, nodeAt, Good, AtomOk, shape, formulaAt}
+use Rattle.rules.specs.declared.Node.{Node}
+use Rattle.rules.proofs.Formulas.{by-kind, formula-at, formula-and, formula-not, formula-some}
+use Rattle.logic.specs.Satisfies.{Binding}
+use Rattle.logic.specs.Model.{Model, eval}
+use Rattle.moments.specs.Truth.{truth, at, TrueAt, atMoment}
+use Rattle.moments.specs.Rows.{pairOf, atomOf}
+
+none-part : (d t u : Bool) → (d && t) ≡ false → (d && t) ≡ (d && (t && u))
+none-part d t u e = e ∙ (sym (ap (λ (x : Bool). x && u) e) ∙ and-assoc d t u)
+
+minus-part : (d t : Bool) → (d && not (d && t)) ≡ (d && not t)
+minus-part true t = refl
+minus-part false t = refl
+
+module _ (M : Model) (ρ : Binding) (file : List ℕ) (p n : ℕ) (x : Node) (is : x ≡ nodeAt file p n) (good : Good file p n) where
+  abbrev Moments : ℕ → RunSet → RunSet → Type 0
+  Moments c dom r = TrueAt M (formulaAt file p c) ρ dom r
+
+  abbrev holds : ℕ → ℕ → Bool
+  holds c j = truth M (formulaAt file p c) (at ρ j) j
+
+  pub moments-and : (dom l r : RunSet) → x .kind ≡ 1 → Moments (x .a) dom l → Moments (x .b) l r → Moments n dom r
+  unfolding eval
+  moments-and dom l r k hx hy j h =
+      rw (formula-and file p n x is good k)
+      (hy j h ∙ (ap (λ (b : Bool). b && holds (x .b) j) (hx j h) ∙ and-assoc (mem dom j) (holds (x .a) j) (holds (x .b) j)))
+
+  pub moments-and-none : (dom l : RunSet) → x .kind ≡ 1 → Moments (x .a) dom l → ((j : ℕ) → mem l j ≡ false) → Moments n dom l
+  unfolding eval
+  moments-and-none dom l k hx z j h =
+      rw (formula-and file p n x is good k) (hx j h ∙ none-part (mem dom j) (holds (x .a) j) (holds (x .b) j) (sym (hx j h) ∙ z j))
+
+  pub moments-not : (dom l r : RunSet) → x .kind ≡ 2 → Moments (x .a) dom l → ((j : ℕ) → mem r j ≡ (mem dom j && not (mem l j))) → Moments n dom r
+  unfolding eval
+  moments-not dom l r k hx hr j h =
+      rw (formula-not file p n x is good k) (hr j ∙ (ap (λ (b : Bool). mem dom j && not b) (hx j h) ∙ minus-part (mem dom j) (holds (x .a) j)))
+
+  pub moments-some : (dom r : RunSet) → x .kind ≡ 3 → TrueAt M (exists (x .a) (formulaAt file p (x .b))) ρ dom r → Moments n dom r
+  moments-some dom r k hx j h = rw (formula-some file p n x is good k) (hx j h)
+
+  -- a node of kinds 4 to 8 has one truth value at all moments
+  module _ (σ : Binding) (m : ℕ) where
+    AtomAs : ℕ → Type 0
+    AtomAs k = atomOf M file (record { kind = k; a = x .a; b = x .b }) σ ≡ eval (atMoment M m) σ (shape file (opOf k) (x .a) (x .b) (formulaAt file p))
+
+    atom-truth : AtomOk (labelCount file) x → atomOf M file x σ ≡ truth M (formulaAt file p n) σ m
+    unfolding atomOf pairOf eval AtomAs
+    atom-truth o =
+        let at-kind : (k : ℕ) → AtomAs k → x .kind ≡ k → AtomAs (x .kind) = λ k h q. subst AtomAs (sym q) h in
+        let h : AtomAs (x .kind) = by-kind (x .kind) (o .low) (o .high) (at-kind 4 refl) (at-kind 5 refl) (at-kind 6 refl) (at-kind 7 refl) (at-kind 8 refl) in
+        h ∙ sym (ap (eval (atMoment M m) σ) (formula-at file p n x is good))
+
+  pub moments-atom : (dom s r : RunSet) → AtomOk (labelCount file) x → ((j : ℕ) → j < 128 → mem s j ≡ atomOf M file x (at ρ j)) → ((j : ℕ) → mem r j ≡ (mem dom j && mem s j)) → Moments n dom r
+  moments-atom dom s r o hs hr j h = hr j ∙ ap (λ (b : Bool). mem dom j && b) (hs j h ∙ atom-truth (at ρ j) j o)

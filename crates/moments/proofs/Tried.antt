@@ -1,0 +1,97 @@
+-- The search for a run: run after run, and at once where the body has no "some".
+use Prim.Native.Nat.{ℕ, _+_, _<_, _≤_}
+use mathlib.Core.Path.{_≡_, refl, sym, subst, ap, ap₂, _∙_}
+use mathlib.Core.Bool.{Bool, true, false, not, _&&_, _||_, and-false}
+use native.Mathlib.Numerals.{add-one}
+use native.Mathlib.Omega.{arith}
+use lib.Dec.{ltb, leb}
+use Rattle.lists.proofs.Cases.{no-both}
+use Rattle.sets.specs.Sets.{mem, anyUpTo}
+use Rattle.sets.specs.declared.RunSet.{RunSet}
+use Rattle.rules.specs.Formula.{Formula, exists}
+use Rattle.logic.specs.Satisfies.{Binding, bind}
+use Rattle.logic.specs.Model.{Model, anyBelow, eval}
+use Rattle.moments.specs.Truth.{truth, each, at, Fixed, TrueAt, FalseWithout}
+use Rattle.moments.specs.Shape.{flat?}
+use Rattle.moments.proofs.Marks.{at-bind, at-each-fixed}
+use Rattle.moments.proofs.Truth.{flat-truth, up-to-moment, any-up-agree}
+
+-- ── the moments that are left ──
+-- the moments of dom from r on that are not in got; none where keep lacks r
+abbrev pub LeftOf : RunSet → RunSet → RunSet → ℕ → RunSet → Type 0
+LeftOf dom got keep r s = (j : ℕ) → mem s j ≡ (mem keep r && ((mem dom j && leb r j) && not (mem got j)))
+
+pub left-kept : (dom got keep above s : RunSet) (b : Bool) (r : ℕ) → b ≡ mem keep r → b ≡ true → ((j : ℕ) → mem above j ≡ (mem dom j && leb r j)) → ((j : ℕ) → mem s j ≡ (mem above j && not (mem got j))) → LeftOf dom got keep r s
+left-kept dom got keep above s b r e t f g j =
+    g j ∙ (ap (λ (x : Bool). x && not (mem got j)) (f j) ∙ ap (λ (x : Bool). x && ((mem dom j && leb r j) && not (mem got j))) (sym t ∙ e))
+
+pub left-dropped : (dom got keep s : RunSet) (b : Bool) (r : ℕ) → b ≡ mem keep r → b ≡ false → ((j : ℕ) → mem s j ≡ false) → LeftOf dom got keep r s
+left-dropped dom got keep s b r e t g j = g j ∙ ap (λ (x : Bool). x && ((mem dom j && leb r j) && not (mem got j))) (sym t ∙ e)
+
+-- ── run after run ──
+-- With d: the moment is in dom, a: a run tried before serves, l: run r is finished, f: the body holds with run r, k: run r is kept.
+one-more : (d a l f k : Bool) → (k ≡ false → f ≡ false) → ((d && a) || ((k && ((d && l) && not (d && a))) && f)) ≡ (d && (a || (l && f)))
+one-more false a l f true h = refl
+one-more true true l f true h = refl
+one-more true false true f true h = refl
+one-more true false false f true h = refl
+one-more false a l f false h = refl
+one-more true true l f false h = refl
+one-more true false true f false h = sym (h refl)
+one-more true false false f false h = refl
+
+none-left : (d a l f k : Bool) → (k ≡ false → f ≡ false) → (k && ((d && l) && not (d && a))) ≡ false → (d && a) ≡ (d && (a || (l && f)))
+none-left false a l f k h e = refl
+none-left true true l f k h e = refl
+none-left true false false f k h e = refl
+none-left true false true f true h e = no-both e
+none-left true false true f false h e = sym (h refl)
+
+module _ (M : Model) (f : Formula) (ρ : Binding) (v : ℕ) (dom : RunSet) where
+  -- run i is finished at moment j, and the body holds with variable v at it
+  abbrev serves : ℕ → ℕ → Bool
+  serves j i = leb i j && truth M f (bind (at ρ j) v i) j
+
+  -- got has the moments of dom at which a run below r serves
+  abbrev pub Tried : RunSet → ℕ → Type 0
+  Tried got r = (j : ℕ) → j < 128 → mem got j ≡ (mem dom j && anyBelow r (serves j))
+
+  pub tried-none : (got : RunSet) → ((j : ℕ) → mem got j ≡ false) → Tried got 0
+  tried-none got e j h = e j ∙ sym (and-false (mem dom j))
+
+  pub tried-all : (got : RunSet) (r : ℕ) → r ≡ M .runs → Tried got r → TrueAt M (exists v f) ρ dom got
+  unfolding eval
+  tried-all got r e h j l = subst (λ (n : ℕ). mem got j ≡ (mem dom j && anyBelow n (serves j))) e (h j l)
+
+  module _ (got keep left : RunSet) (r : ℕ) (dropped : FalseWithout M f ρ v keep) (fin : r < M .runs) (hl : LeftOf dom got keep r left) (old : Tried got r) where
+    left-is : (j : ℕ) → j < 128 → mem left j ≡ (mem keep r && ((mem dom j && leb r j) && not (mem dom j && anyBelow r (serves j))))
+    left-is j h = hl j ∙ ap (λ (y : Bool). mem keep r && ((mem dom j && leb r j) && not y)) (old j h)
+
+    pub tried-more : (found next : RunSet) (σ : Binding) → r < 128 → σ ≡ bind ρ v r → TrueAt M f σ left found → ((j : ℕ) → mem next j ≡ (mem got j || mem found j)) → Tried next (r + 1)
+    tried-more found next σ low e hf hn j h =
+        let t = truth M f (bind (at ρ j) v r) j in
+        let q : mem found j ≡ (mem left j && t) = hf j h ∙ ap (λ (τ : Binding). mem left j && truth M f τ j) (ap (λ (τ : Binding). at τ j) e ∙ at-bind ρ v r j low) in
+        rw (add-one r)
+        (hn j ∙ (ap₂ _||_ (old j h) (q ∙ ap (λ (x : Bool). x && t) (left-is j h))
+        ∙ one-more (mem dom j) (anyBelow r (serves j)) (leb r j) t (mem keep r) (λ z. dropped r fin z j j)))
+
+    pub tried-skip : ((j : ℕ) → mem left j ≡ false) → Tried got (r + 1)
+    tried-skip z j h =
+        rw (add-one r)
+        (old j h ∙ none-left (mem dom j) (anyBelow r (serves j)) (leb r j) (truth M f (bind (at ρ j) v r) j) (mem keep r) (λ q. dropped r fin q j j)
+        (sym (left-is j h) ∙ z j))
+
+-- ── at once ──
+-- a body without "some" does not depend on the moment: from the first run on that satisfies it, "some" is true
+module _ (M : Model) (f : Formula) (ρ σ : Binding) (v : ℕ) (dom finished found up r : RunSet) where
+  pub some-at-once : Fixed ρ → flat? f ≡ true → σ ≡ bind ρ v each → ((j : ℕ) → mem finished j ≡ ltb j (M .runs)) → TrueAt M f σ finished found
+      → ((j : ℕ) → j < 128 → mem up j ≡ anyUpTo j (mem found)) → ((j : ℕ) → mem r j ≡ (mem dom j && mem up j)) → TrueAt M (exists v f) ρ dom r
+  unfolding eval
+  some-at-once fx fl e hf ht hu hr j h =
+      let served : ℕ → Bool = λ i. truth M f (bind (at ρ j) v i) j in
+      let one : (i : ℕ) → i ≤ j → mem found i ≡ (ltb i (M .runs) && served i) =
+      λ i l.
+      ht i (omega (arith, l))
+      ∙ ap₂ _&&_ (hf i)
+      (ap (λ (τ : Binding). truth M f τ i) (ap (λ (τ : Binding). at τ i) e ∙ at-each-fixed ρ v i j fx) ∙ flat-truth M i j f (bind (at ρ j) v i) fl) in
+      hr j ∙ ap (λ (x : Bool). mem dom j && x) (hu j h ∙ (any-up-agree (mem found) (λ i. ltb i (M .runs) && served i) j one ∙ up-to-moment (M .runs) j served))

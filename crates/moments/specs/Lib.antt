@@ -1,0 +1,5 @@
+pub mod Truth
+pub mod Shape
+pub mod Rows
+pub mod Open
+pub mod Ready

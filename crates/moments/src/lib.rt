@@ -1,0 +1,19 @@
+// The core of the fast evaluator: all moments at once.
+//
+// Finished runs are numbered by rank, in the order in which they finished, and moment m is the one at which the runs of rank 0 to m
+// are finished. `times::times` answers the moments at which the formula of a node is true, as one set.
+mod ranks;
+mod rows;
+mod search;
+pub mod times;
+
+// The rank of a run that a variable stands for, or EACH.
+pub struct Rank(pub u8);
+
+// The rank that each variable stands for.
+pub struct Bindings {
+    pub run: [Rank; 4],
+}
+
+// The mark of a variable that stands at moment j for run j.
+const EACH: usize = 128;

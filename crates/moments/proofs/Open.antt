@@ -17,7 +17,8 @@ use Rattle.rules.proofs.Formulas.{formula-and, formula-some}
 use Rattle.logic.specs.Satisfies.{Binding, bind}
 use Rattle.logic.specs.Model.{Model, eval}
 use Rattle.moments.specs.Truth.{truth, each, at, Fixed, TrueAt, FalseWithout}
-use Rattle.moments.specs.Shape.{flat?, free?, Flats, Frees}
+use Rattle.shape.specs.Shape.{flat?, free?}
+use Rattle.moments.specs.Shape.{Flats, Frees}
 use Rattle.moments.specs.Open.{Keeps, Apart, Marked}
 use Rattle.moments.proofs.Marks.{at-each-fixed}
 use Rattle.moments.proofs.Masks.{marked-on, marked-more}

@@ -12,7 +12,7 @@ use Rattle.rules.specs.Formula.{Formula, exists}
 use Rattle.logic.specs.Satisfies.{Binding, bind}
 use Rattle.logic.specs.Model.{Model, anyBelow, eval}
 use Rattle.moments.specs.Truth.{truth, each, at, Fixed, TrueAt, FalseWithout}
-use Rattle.moments.specs.Shape.{flat?}
+use Rattle.shape.specs.Shape.{flat?}
 use Rattle.moments.proofs.Marks.{at-bind, at-each-fixed}
 use Rattle.moments.proofs.Truth.{flat-truth, up-to-moment, any-up-agree}
 

@@ -1,67 +1,30 @@
 -- What truth at a moment depends on: not on the moment where there is no "some", and only on the variables that stand free.
 use Prim.Native.Nat.{ℕ, zero, suc, _<_, _≤_}
-use mathlib.Core.Path.{_≡_, refl, sym, ap, ap₂, _∙_}
-use mathlib.Core.Bool.{Bool, true, false, not, _&&_, _||_, cond, or-true}
+use mathlib.Core.Path.{_≡_, refl, sym, ap, _∙_}
+use mathlib.Core.Bool.{Bool, true, false, _&&_, _||_}
 use native.Mathlib.Omega.{arith}
-use lib.Dec.{ltb, leb, eqb}
-use borrow.Author.Tests.{eq-eqb, ltb-true, leb-true, lt-ltb, le-leb}
+use lib.Dec.{ltb, leb}
+use borrow.Author.Tests.{ltb-true, leb-true, lt-ltb, le-leb}
 use Rattle.lists.proofs.Cases.{no-both, and-left, and-right}
 use Rattle.sets.specs.Sets.{anyUpTo, anyBelow as anyIn}
-use Rattle.relations.specs.Relation as Relation
-use Rattle.rules.specs.Formula.{Formula, both, neg, exists, has, before, overlaps, includes, same}
-use Rattle.logic.specs.Satisfies.{Binding, bind}
-use Rattle.logic.specs.Model.{Model, anyBelow, eval}
+use Rattle.rules.specs.Formula.{Formula}
+use Rattle.logic.specs.Satisfies.{Binding}
+use Rattle.logic.specs.Model.{Model, anyBelow}
 use Rattle.logic.proofs.Closed.{any-agree}
 use Rattle.logic.proofs.Nodes.{found-yes}
-use Rattle.moments.specs.Truth.{truth}
-use Rattle.moments.specs.Shape.{flat?, free?}
+use Rattle.moments.specs.Truth.{atMoment, truth}
+use Rattle.shape.specs.Shape.{flat?}
+use Rattle.shape.proofs.Truth.{AgreeOnFree, eval-free, eval-flat}
 
--- ── a formula without "some" ──
+-- ── what truth at a moment depends on ──
 module _ (M : Model) (m n : ℕ) where
+  -- not on the moment, where there is no "some"
   pub flat-truth : (f : Formula) (ρ : Binding) → flat? f ≡ true → truth M f ρ m ≡ truth M f ρ n
-  unfolding eval flat?
-  flat-truth (both f g) ρ e = ap₂ _&&_ (flat-truth f ρ (and-left (flat? f) (flat? g) e)) (flat-truth g ρ (and-right (flat? f) (flat? g) e))
-  flat-truth (neg f) ρ e = ap not (flat-truth f ρ e)
-  flat-truth (exists v f) ρ e = no-both (sym e)
-  flat-truth (has v l) ρ e = refl
-  flat-truth (before v w) ρ e = refl
-  flat-truth (overlaps v w) ρ e = refl
-  flat-truth (includes v w) ρ e = refl
-  flat-truth (same v w) ρ e = refl
+  flat-truth = eval-flat (atMoment M m) (atMoment M n) (record { labelled = λ i l. refl; relates = λ r i k. refl; alike = λ i k. refl })
 
--- ── bindings that agree on the free variables ──
-abbrev AgreeOn : (ℕ → Bool) → Binding → Binding → Type 0
-AgreeOn s ρ σ = (v : ℕ) → s v ≡ true → ρ v ≡ σ v
-
-agree-left : (s t : ℕ → Bool) (ρ σ : Binding) → AgreeOn (λ u. s u || t u) ρ σ → AgreeOn s ρ σ
-agree-left s t ρ σ h v e = h v (rw e refl)
-
-agree-right : (s t : ℕ → Bool) (ρ σ : Binding) → AgreeOn (λ u. s u || t u) ρ σ → AgreeOn t ρ σ
-agree-right s t ρ σ h v e = h v (rw e (or-true (s v)))
-
-agree-bind : (s : ℕ → Bool) (ρ σ : Binding) (v j : ℕ) → AgreeOn (λ u. not (eqb v u) && s u) ρ σ → AgreeOn s (bind ρ v j) (bind σ v j)
-agree-bind s ρ σ v j h w e = go (eqb v w) refl
-  where
-    go : (x : Bool) → eqb v w ≡ x → cond x j (ρ w) ≡ cond x j (σ w)
-    go true q = refl
-    go false q = h w (rw q e)
-
-agree-two : {A : Type 0} (f : ℕ → ℕ → A) (v w : ℕ) (ρ σ : Binding) → AgreeOn (λ u. eqb v u || eqb w u) ρ σ → f (ρ v) (ρ w) ≡ f (σ v) (σ w)
-agree-two f v w ρ σ h = ap₂ f (h v (rw (eq-eqb v v refl) refl)) (h w (rw (eq-eqb w w refl) (or-true (eqb v w))))
-
-module _ (M : Model) (m : ℕ) where
-  pub free-truth : (f : Formula) (ρ σ : Binding) → AgreeOn (free? f) ρ σ → truth M f ρ m ≡ truth M f σ m
-  unfolding eval free?
-  free-truth (both f g) ρ σ h = ap₂ _&&_ (free-truth f ρ σ (agree-left (free? f) (free? g) ρ σ h)) (free-truth g ρ σ (agree-right (free? f) (free? g) ρ σ h))
-  free-truth (neg f) ρ σ h = ap not (free-truth f ρ σ h)
-  free-truth (exists v f) ρ σ h =
-      any-agree (λ r. leb r m && truth M f (bind ρ v r) m) (λ r. leb r m && truth M f (bind σ v r) m) (M .runs)
-      (λ r _. ap (λ (b : Bool). leb r m && b) (free-truth f (bind ρ v r) (bind σ v r) (agree-bind (free? f) ρ σ v r h)))
-  free-truth (has v l) ρ σ h = ap (λ (i : ℕ). M .labelled i l) (h v (eq-eqb v v refl))
-  free-truth (before v w) ρ σ h = agree-two (M .relates Relation.before) v w ρ σ h
-  free-truth (overlaps v w) ρ σ h = agree-two (M .relates Relation.overlaps) v w ρ σ h
-  free-truth (includes v w) ρ σ h = agree-two (M .relates Relation.includes) v w ρ σ h
-  free-truth (same v w) ρ σ h = agree-two (M .alike) v w ρ σ h
+-- on the free variables only
+pub free-truth : (M : Model) (m : ℕ) (f : Formula) (ρ σ : Binding) → AgreeOnFree f ρ σ → truth M f ρ m ≡ truth M f σ m
+free-truth M m = eval-free (atMoment M m)
 
 -- ── a search ──
 pub found-at : (p : ℕ → Bool) (n : ℕ) → anyBelow n p ≡ true → (i : ℕ) × (i < n) × (p i ≡ true)

@@ -342,7 +342,7 @@ some-loop-loop-again t c =
           let l : r < M .runs = omega (arith, rows .runs-are) in
           ⊎-elim
           (λ w. subst Next (sym (w .4)) (tried-more M f (binding (a .b)) (a .v) (a .dom) _ _ _ r dropped l left old _ _ (binding (w .1 .result)) (omega arith) (w .1 .ensures) (w .2 .ensures M rows) (w .3 .ensures)))
-          (λ w. subst Next (sym (w .1)) (tried-skip M f (binding (a .b)) (a .v) (a .dom) _ _ _ r dropped l left old (c .before .none .ensures (not-false _ (w .0 .left)))))
+          (λ w. subst Next (sym (w .1)) (tried-skip M f (binding (a .b)) (a .v) (a .dom) _ _ _ r dropped l left old (c .before .none .ensures .yes (not-false _ (w .0 .left)))))
           (c .if1 .came),
     )
 
@@ -403,7 +403,7 @@ times-returns t c =
     let s = c .before .before .before .before .before .before .before .before .before in
     let a = s .args in
     let x = c .before .before .before .before .node-at in
-    λ M rows. moments-and-none M (binding (a .b)) _ _ _ (x .result) (x .ensures) (s .pre .1 .good) (a .dom) _ (c .before .before .before .if1 .taken) (c .before .before .times .ensures M rows) (c .before .none .ensures (c .if2 .taken))
+    λ M rows. moments-and-none M (binding (a .b)) _ _ _ (x .result) (x .ensures) (s .pre .1 .good) (a .dom) _ (c .before .before .before .if1 .taken) (c .before .before .times .ensures M rows) (c .before .none .ensures .yes (c .if2 .taken))
 
 times-returns-2 : (t : ℕ) → times-lts.Need-returns-2 (times-calls t) (times-at t) times.Post
 times-returns-2 t c =

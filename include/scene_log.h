@@ -44,7 +44,8 @@ uint32_t scene_log_check_log(const uint8_t *rule, size_t rule_length, const uint
  *
  * The record's bytes: the number of lines, low byte first; the numbers of runs and of labels, a byte each; from byte 4 on,
  * for each of 128 runs, 7 bytes: id, begin line and end line (0 while open), low byte first, and the label's number (0 for
- * none); from byte 900 on, for each of 64 labels, its length and its 24 bytes; from byte 2,500 on the 128 places. */
+ * none); from byte 900 on, for each of 64 labels, its length and its 24 bytes; from byte 2,500 on the 128 places.
+ * SCENE_LOG_REFUSAL is for the calls on lines: here the answer is 0 or 20 itself. */
 uint32_t scene_log_start(uint8_t *record, size_t record_length, uint8_t *work, size_t work_length);
 
 /* Takes one line, with its LF, on a record and its work area, as scene_log_start or the line before left them. The answer is

@@ -6,6 +6,7 @@ use borrow.Author.Tests.{le-leb}
 use Rattle.relations.specs.declared.Composed.{Composed}
 use Rattle.relations.specs.declared.Composed.the-variants as Composed
 use Rattle.relations.specs.Compose.{composeOf, composedOf}
+use Rattle.relations.proofs.Demand.{demand-3 as composition-law}
 use Rattle.claims.specs.Demands.{Demand3, Demands}
 use Rattle.claims.specs.Cases.{Cases}
 use Rattle.claims.proofs.Refusals.{demand-1}
@@ -20,8 +21,8 @@ demand-3 a b h k v c =
     record {
       composition = composeOf a b;
       reported = c .answer ∙ is-composed a b h k;
-      exactly = λ r. c .demand-3 a b h k r .exactly;
-      by-three = λ r. c .demand-3 a b h k r .by-three;
+      exactly = λ r. composition-law a b h k r .exactly;
+      by-three = λ r. composition-law a b h k r .by-three;
     }
 
 pub the-demands : Demands

@@ -10,7 +10,9 @@ use lib.ListN.{length}
 use borrow.Author.Tests.{lt-ltb, le-ltb}
 use Rattle.lists.proofs.Cases.{either-lt, either-bool}
 use Rattle.lines.specs.Line.{eventOf}
-use Rattle.lines.specs.Log.{linesOf}
+use Rattle.lines.specs.Log.{linesOf, placeAfter}
+use Rattle.lines.specs.declared.Next.{Next}
+use Rattle.lines.proofs.Event.{event-refusal}
 use Rattle.trace.specs.declared.Record.{Record}
 use Rattle.trace.specs.Trace.{Trace, Answer, next, refused, noTrace, apply}
 use Rattle.trace.specs.Record.{recordOf}
@@ -191,11 +193,13 @@ demand-1 =
       start-kept = start-kept;
       report-met = λ file log w out text a w′ out′ text′ h c. report-met w out text file log c a w′ out′ text′ h;
       report-kept = λ file log w out text a w′ out′ text′ h c. report-kept w out text file log c a w′ out′ text′ h;
+      report-rule = λ file log w out text a w′ out′ text′ h n c p q. h .unruled n c p q;
       relate-met = relate-met;
       compose-met = compose-met;
       converse-met = converse-met;
       next-met = next-met;
-      next-kept = λ p c. refl;
+      next-kept = λ log p c e. ap (λ (n : Next). placeAfter n p) e;
+      parse-listed = λ line c e. event-refusal line c (parse-met line c .0 e);
       parse-met = parse-met;
       rule-met = λ file q h c. (λ e. sym (h .answer) ∙ e, λ e. h .answer ∙ e);
       rule-listed = rule-range;

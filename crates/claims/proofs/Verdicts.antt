@@ -2,6 +2,7 @@
 use Prim.Native.Nat.{ℕ, _≤_, _<_}
 use mathlib.Core.Path.{_≡_, refl, ap, sym, _∙_, subst}
 use mathlib.Core.List.{List, [], _∷_}
+use mathlib.Core.Bool.{true}
 use mathlib.Core.Option.{some}
 use lib.ListN.{length}
 use borrow.Author.Tests.{lt-ltb, le-ltb}
@@ -25,6 +26,9 @@ use Rattle.rules.proofs.Rules.{reads-rule}
 use Rattle.logic.specs.declared.Verdict.{Verdict}
 use Rattle.logic.specs.Verdict.{verdictOf}
 use Rattle.monitor.specs.declared.Checked.{Checked}
+use Rattle.monitor.specs.declared.Tally.{Tally}
+use Rattle.monitor.specs.declared.Tallied.{Tallied}
+use Rattle.monitor.specs.Tally.{counts?, untallied, ChecksTallied}
 use Rattle.monitor.specs.declared.Ending.the-variants as Ending
 use Rattle.monitor.specs.Handed.{Left}
 use Rattle.monitor.specs.Line.{judged, lineAfter, stateOf, lineOf, TakenLine, ChecksLine}
@@ -35,6 +39,7 @@ use Rattle.monitor.proofs.LineCall.{with-taken}
 use Rattle.monitor.proofs.Lines.{work-over, by-answer, from-none, from-taken}
 use Rattle.monitor.proofs.LogMeans.{same-trace, after-line, no-line}
 use Rattle.monitor.proofs.Known.{pairs-long}
+use Rattle.monitor.proofs.TallyLaws.{tallied-is-line}
 use Rattle.monitor.proofs.Repeated.{left-by}
 use Rattle.monitor.proofs.Failing.{tally-starts, tally-taken}
 use Rattle.claims.specs.Demands.{Settled, GoesOn, Demand2}
@@ -86,6 +91,13 @@ line-takes file x e log t r w line l a w′ h u p =
     let s : lineOf file r w line (some t) ≡ stateOf file x r w line (some t) = simp (le-ltb (length w) 16384 (pairs-long (t .runs) w w (l .pairs))) (with-taken (ruleOf file) x _ _ e) in
     ap (λ (z : Checked × List ℕ). z .0 .outcome) (h .answer (some t) (λ _. (log, l)) ∙ s) ∙ ap (λ (z : Answer). lineAfter file x t w z .0 .outcome) p
 
+same-answers : (file : List ℕ) (log : List ℕ) (t : Trace) (r : Record) (y : Tally) (w line : List ℕ) → Left log t r w → counts? t y ≡ true
+    → (a : Tallied) (w′ : List ℕ) → ChecksTallied file r y w line a w′ → (b : Checked) (v : List ℕ) → ChecksLine file r w line b v → (untallied a ≡ b) × (w′ ≡ v)
+same-answers file log t r y w line l p a w′ h b v k =
+    let e : _≡_ {A = Checked × List ℕ} (untallied a, w′) (b, v) =
+    ap (λ (z : Tallied × List ℕ). (untallied (z .0), z .1)) (h .answer (some t) (λ _. (log, l))) ∙ (tallied-is-line file r y w line t p ∙ sym (k .answer (some t) (λ _. (log, l)))) in
+    (ap (λ (z : Checked × List ℕ). z .0) e, ap (λ (z : Checked × List ℕ). z .1) e)
+
 module _ (file : List ℕ) (x : Rule) (w : List ℕ) where
   -- lines that are taken are read to their end
   to-end : (ls : List (List ℕ)) (t u : Trace) (out : List ℕ) → steps (next t) ls ≡ next u
@@ -115,6 +127,7 @@ demand-2 =
       start = started;
       line = line-goes-on;
       takes = line-takes;
+      tallied-same = same-answers;
       tallied = λ file x e log t r y w line l p a w′ h. h .meaning x e log t l p;
       zeros = tally-starts;
       counted = tally-taken;

@@ -64,6 +64,8 @@ pub record P10 : Type 0 where
 
 pub record Cases : Type 0 where
   pub p1 : P1
+  -- "P2 before, before: 1. P3 before, after: 63. P4 overlaps, overlaps: 5. P5 before, during: 37. P6 overlaps, includes: 21. P7 includes,
+  -- during: 60. P8 set 0 with 63: 0."
   pub p2-to-p8 : Examples
   pub p9 : P9
   pub p10 : P10

@@ -1,5 +1,8 @@
 -- The three demands, as three statements about whatever the calls answer by their contracts. A contract gives the answer and the
 -- contents of every lent buffer at exit: a, w′ and out′ below. That a call ends and does nothing undefined is proved of every function.
+-- A contract has what its answer means as a part; that the calls keep their contracts is proved in `monitor`, `report`, `relations` and
+-- the crates below. The call that is lent a tally (`check_line_lent`) has the contract of the one with a tally by value. The calls for C
+-- and the bytes of a record are not on this page: their contracts (`scene_log`, `record_bytes`) give each answer by these.
 --
 -- The words of this page, and where they are defined:
 --   Accepted log t      no line of log meets a refusal, and the trace t is what its lines leave      trace/specs/Trace.antt
@@ -23,7 +26,7 @@ use lib.ListN.{length, getD, take, drop}
 use Rattle.lists.specs.Lists.{has?}
 use Rattle.lines.specs.Event.{faulty}
 use Rattle.lines.specs.Line.{eventOf, parsedOf}
-use Rattle.lines.specs.Log.{nextLine, placeAfter}
+use Rattle.lines.specs.Log.{nextLine, advancedFrom}
 use Rattle.lines.specs.declared.Next.the-variants as Next
 use Rattle.lines.specs.declared.Parsed.the-variants as Parsed
 use Rattle.trace.specs.declared.Record.{Record}
@@ -57,10 +60,11 @@ use Rattle.monitor.specs.declared.Tallied.{Tallied}
 use Rattle.monitor.specs.declared.LogChecked.{LogChecked}
 use Rattle.monitor.specs.Handed.{Left}
 use Rattle.monitor.specs.Line.{judged, refusing, TakenLine, ChecksLine}
-use Rattle.monitor.specs.Tally.{counts?, refusingWith, tallyAfter, TalliedMeans, ChecksTallied}
+use Rattle.monitor.specs.Tally.{counts?, refusingWith, untallied, tallyAfter, TalliedMeans, ChecksTallied}
 use Rattle.monitor.specs.Log.{ended, notRead, logOf, LogMeans, ChecksLog}
 use Rattle.report.specs.declared.Reported.{Reported}
 use Rattle.report.specs.declared.Reported.the-variants as Reported
+use Rattle.report.specs.Text.{refusedText}
 use Rattle.report.specs.Report.{TextMeans, Reports}
 use Rattle.claims.specs.WhereMet.{MetLine, MetTallied, FirstRefused, MetLog, MetRelate, MetCompose}
 
@@ -104,14 +108,19 @@ pub record Demand1 : Type 0 where
       → (c : ℕ) → (a ≡ Reported.Refused c) ↔ (((16384 ≤ length w) × (256 ≤ length out) × (2048 ≤ length text) → ⊥) × (c ≡ 20))
   pub report-kept : (file log w out text : List ℕ) (a : Reported) (w′ out′ text′ : List ℕ) → Reports file log w out text a w′ out′ text′
       → (c : ℕ) → a ≡ Reported.Refused c → (w′ ≡ w) × (out′ ≡ out) × (text′ ≡ text)
+  -- a refused rule is printed, and nothing else
+  pub report-rule : (file log w out text : List ℕ) (a : Reported) (w′ out′ text′ : List ℕ) → Reports file log w out text a w′ out′ text′
+      → (n c : ℕ) → a ≡ Reported.Length n → ruleOf file ≡ RuleRead.Refused c → take n text′ ≡ refusedText 0 c
   -- relating two runs, and sets of relations: no buffer is lent
   pub relate-met : (r : Record) (a b : RunNo) (v : Related) → Relating r a b v → (c : ℕ) → (v ≡ Related.Refused c) ↔ MetRelate r (a .0) (b .0) c
   pub compose-met : (a b : ℕ) (v : Composed) → Composition a b v → (c : ℕ) → (v ≡ Composed.Refused c) ↔ MetCompose a b c
   pub converse-met : (a : ℕ) (v : Composed) → Conversed a v → (c : ℕ) → (v ≡ Composed.Refused c) ↔ ((63 < a) × (c ≡ 14))
   -- reading: the next line of a log ("with no LF among the next 40 bytes it answers 11 and keeps its place"), one line, a rule file
   pub next-met : (log : List ℕ) (p c : ℕ) → (nextLine log p ≡ Next.Refused c) ↔ ((p < length log) × (has? 10 (take 40 (drop p log)) ≡ false) × (c ≡ 11))
-  pub next-kept : (p c : ℕ) → placeAfter (Next.Refused c) p ≡ p
+  pub next-kept : (log : List ℕ) (p c : ℕ) → nextLine log p ≡ Next.Refused c → advancedFrom log p .place ≡ p
+  -- where 1 to 13 are met is said by `eventOf` and `ruleOf`, which follow the list's sentences part by part
   pub parse-met : (line : List ℕ) (c : ℕ) → (parsedOf line ≡ Parsed.Refused c) ↔ (eventOf line ≡ faulty c)
+  pub parse-listed : (line : List ℕ) (c : ℕ) → parsedOf line ≡ Parsed.Refused c → (11 ≤ c) × (c ≤ 13)
   pub rule-met : (file : List ℕ) (q : RuleRead) → ReadsRule file q → (c : ℕ) → (q ≡ RuleRead.Refused c) ↔ (ruleOf file ≡ RuleRead.Refused c)
   pub rule-listed : (file : List ℕ) (c : ℕ) → ruleOf file ≡ RuleRead.Refused c → (1 ≤ c) × (c ≤ 10)
 
@@ -143,7 +152,10 @@ pub record Demand2 : Type 0 where
       → (a : Checked) (w′ : List ℕ) → ChecksLine file r w line a w′ → (v : Verdict) → a .outcome ≡ judged v → GoesOn file x log line w v (a .state) w′
   pub takes : (file : List ℕ) (x : Rule) → ruleOf file ≡ RuleRead.Rule x → (log : List ℕ) (t : Trace) (r : Record) (w line : List ℕ) → Left log t r w
       → (a : Checked) (w′ : List ℕ) → ChecksLine file r w line a w′ → (u : Trace) → apply t (eventOf line) ≡ next u → a .outcome ≡ judged (verdictOf u (formulaOf file x))
-  -- the call with a tally answers the same; a tally "starts at zeros", and that of the log becomes that of the log with the line
+  -- the call with a tally answers the same
+  pub tallied-same : (file : List ℕ) (log : List ℕ) (t : Trace) (r : Record) (y : Tally) (w line : List ℕ) → Left log t r w → counts? t y ≡ true
+      → (a : Tallied) (w′ : List ℕ) → ChecksTallied file r y w line a w′ → (b : Checked) (v : List ℕ) → ChecksLine file r w line b v → (untallied a ≡ b) × (w′ ≡ v)
+  -- a tally "starts at zeros", and that of the log becomes that of the log with the line
   pub tallied : (file : List ℕ) (x : Rule) → ruleOf file ≡ RuleRead.Rule x → (log : List ℕ) (t : Trace) (r : Record) (y : Tally) (w line : List ℕ) → Left log t r w
       → counts? t y ≡ true → (a : Tallied) (w′ : List ℕ) → ChecksTallied file r y w line a w′ → TalliedMeans file x log t r y w line a w′
   pub zeros : (file : List ℕ) (x : Rule) → tallyAfter file x [] noTrace ≡ record { lines = 0; begun = 0; finished = 0; running = 0; failing = 0 }

@@ -24,7 +24,7 @@ use crate::search::short;
 use rules::table::node_at;
 use sets::RunSet;
 
-// The moments of dom at which the formula of a node is true.
+// The moments of dom at which the formula of a node is true. What it answers for a table that is no model's rows is left free.
 pub fn times(
     file: &[u8],
     first: usize,

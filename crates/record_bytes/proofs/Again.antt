@@ -5,7 +5,8 @@ use mathlib.Core.List.{List, _++_, append-assoc}
 use native.Mathlib.Omega.{arith}
 use lib.ListN.{length, getD}
 use lib.Seq.{getD-append-add}
-use borrow.Author.Tests.{lt-ltb}
+use borrow.Author.Tests.{lt-ltb, le-ltb}
+use Rattle.lists.proofs.Cases.{either-lt}
 use Rattle.labels.specs.declared.Label.{Label}
 use Rattle.labels.specs.declared.LabelNo.{LabelNo}
 use Rattle.labels.specs.Label.{labelNo, absent}
@@ -31,9 +32,15 @@ behind : (p q : List ℕ) (n m : ℕ) → m ≡ length p + n → byteAt (p ++ q)
 behind p q n m e = ap (byteAt (p ++ q)) e ∙ getD-append-add p q n 0
 
 -- two bytes make the number that they were made of
+-- ── counts ──
 count-kept : (n : ℕ) → n < 256 → countByte n ≡ n
 unfolding countByte
 count-kept n h = simp (lt-ltb n 256 h)
+
+-- a count that is too high stays too high: more than 128 runs, or more than 64 labels
+pub count-stays-high : (most n : ℕ) → most < 255 → most < n → most < countByte n
+unfolding countByte
+count-stays-high most n b h = either-lt n 256 (λ l. simp (lt-ltb n 256 l) h) (λ l. simp (le-ltb n 256 l) b)
 
 two-bytes : (s : List ℕ) (m n : ℕ) → byteAt s m ≡ n % 256 → byteAt s (m + 1) ≡ n / 256 → u16At s m ≡ n
 two-bytes s m n p q = omega arith

@@ -1,0 +1,6 @@
+pub mod Stored
+pub mod Tests
+pub mod Between
+pub mod Given
+pub mod Ranked
+pub mod Meaning

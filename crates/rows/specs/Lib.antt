@@ -1,0 +1,4 @@
+pub mod Stored
+pub mod Values
+pub mod RankModel
+pub mod ByRank

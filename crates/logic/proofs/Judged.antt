@@ -18,7 +18,7 @@ use Rattle.labels.proofs.Table.{lookup-table}
 use Rattle.trace.specs.declared.Record.{Record}
 use Rattle.trace.specs.declared.Run.{Run}
 use Rattle.trace.specs.Trace.{Trace, noRun, runNo, runAt, Accepted}
-use Rattle.trace.specs.Record.{recordOf}
+use Rattle.trace.specs.Record.{recordOf, Bounded}
 use Rattle.trace.proofs.Bounds.{accepted-bounded}
 use Rattle.pairs.specs.Pairs.{workOf}
 use Rattle.rules.specs.declared.Rule.{Rule}
@@ -61,6 +61,11 @@ slot-number ls l =
     (λ h. simp (lt-ltb _ _ h))
     (λ h. simp (le-ltb _ _ h))
 
+-- the number that a search in the record of a trace finds for a label
+pub label-found : (t : Trace) → Bounded t → (l : List ℕ) → slotNumber (lookup (recordOf t .labels) (labelOf l)) ≡ numberFor (t .labels) l
+unfolding recordOf
+label-found t b l = ap slotNumber (lookup-table (t .labels) (b .distinct) (b .labels) (labelOf l)) ∙ slot-number (t .labels) l
+
 pub record Made (file : List ℕ) (x : Rule) (r : Record) (finished numbers wanted : List ℕ) : Type 0 where
   pub flags : (j : ℕ) → j < 128 → getD finished j 0 ≡ finishedFlag (getD (r .runs .list) j noRun)
   pub labels : (j : ℕ) → j < 128 → getD numbers j 0 ≡ getD (r .runs .list) j noRun .label .0
@@ -80,8 +85,7 @@ module _ (file : List ℕ) (x : Rule) (taken : Taken file x) (r : Record) (work 
         numbers-are = λ j h. made .labels j h ∙ ap (λ (q : Run). q .label .0) (at j);
         wanted-are = λ p h.
             made .places p (omega (arith, taken .labels))
-            ∙ (ap (λ (q : Record). slotNumber (lookup (q .labels) (labelOf (labelBytes file p)))) e
-            ∙ (ap slotNumber (lookup-table (t .labels) (bounds .distinct) (bounds .labels) (labelOf (labelBytes file p))) ∙ slot-number (t .labels) (labelBytes file p)));
+            ∙ (ap (λ (q : Record). slotNumber (lookup (q .labels) (labelOf (labelBytes file p)))) e ∙ label-found t bounds (labelBytes file p));
         runs-are = ap (λ (q : Record). q .runs .count) e;
       }
 

@@ -12,7 +12,7 @@ use trace::Record;
 use trace::RunNo;
 
 mod evaluate;
-mod shown;
+pub mod shown;
 
 // The runs that a record has places for.
 const MAX_RUNS: usize = 128;

@@ -36,7 +36,7 @@ found-at p (suc n) e = go (anyBelow n p) (p n) refl refl e (found-at p n)
     go false true f g h ih = (n, omega arith, g)
     go false false f g h ih = no-both (sym h)
 
-same-truth : (x y : Bool) → (x ≡ true → y ≡ true) → (y ≡ true → x ≡ true) → x ≡ y
+pub same-truth : (x y : Bool) → (x ≡ true → y ≡ true) → (y ≡ true → x ≡ true) → x ≡ y
 same-truth true y f g = sym (f refl)
 same-truth false true f g = g refl
 same-truth false false f g = refl

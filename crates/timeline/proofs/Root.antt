@@ -1,0 +1,92 @@
+-- The root of a taken rule: what the evaluator needs there, from the tables of shapes, and what its answer says of a closed formula.
+use Prim.Native.Nat.{ℕ, zero, suc, _+_, _*_, _-_, _<_, _≤_}
+use mathlib.Core.Path.{_≡_, refl, sym, ap, _∙_}
+use mathlib.Core.Bool.{Bool, true, false, _&&_, cond}
+use mathlib.Core.List.{List, [], _∷_}
+use native.Mathlib.Omega.{arith}
+use lib.Dec.{eqb, ltb}
+use lib.ListN.{length, replicate}
+use borrow.Author.Tests.{lt-ltb}
+use Rattle.sets.specs.Sets.{mem}
+use Rattle.sets.specs.declared.RunSet.{RunSet}
+use Rattle.rules.specs.declared.Rule.{Rule}
+use Rattle.rules.specs.Formula.{Formula, noScope, scoped}
+use Rattle.rules.specs.Table.{formulaAt}
+use Rattle.rules.specs.Rules.{Taken}
+use Rattle.logic.specs.Satisfies.{Binding}
+use Rattle.logic.specs.Model.{Model}
+use Rattle.logic.proofs.Closed.{eval-closed}
+use Rattle.shape.specs.Shape.{flat?}
+use Rattle.shape.specs.Tables.{FlatFlag, FreeMask, TableOf}
+use Rattle.moments.specs.declared.Bindings.{Bindings}
+use Rattle.moments.specs.Truth.{atMoment, truth, at, TrueAt}
+use Rattle.moments.specs.Shape.{Flats, Frees}
+use Rattle.moments.specs.Rows.{pairOf, RowsOf}
+use Rattle.moments.specs.Ready.{rank, InRange, tableWords, Ready}
+use Rattle.rows.proofs.Stored.{new-row}
+use Rattle.timeline.specs.Root.{noRuns, Shaped, TrueAmong}
+
+-- ── the tables of shapes ──
+flag-plain : (b : Bool) → cond {A = ℕ} b 1 0 ≡ 1 → b ≡ true
+flag-plain true e = refl
+flag-plain false e = absurd (omega arith)
+
+pub flats-at-root : (file : List ℕ) (p count n : ℕ) (flats : List ℕ) → TableOf FlatFlag file p count flats → n < count → n < length flats → Flats file p n flats
+flats-at-root file p count n flats t l long =
+    record { long = long; plain = λ i h e. flag-plain (flat? (formulaAt file p i)) (sym (t .nodes i (omega arith)) ∙ e) }
+
+pub frees-at-root : (file : List ℕ) (p count n : ℕ) (frees : List ℕ) → TableOf FreeMask file p count frees → n < count → n < length frees → Frees file p n frees
+frees-at-root file p count n frees t l long = record { long = long; free = λ i h v e. t .nodes i (omega arith) v ∙ e }
+
+-- ── the evaluator at the root ──
+-- with every variable at rank 0
+abbrev pub fromZero : Bindings
+fromZero = record { run = rank 0 ∷ rank 0 ∷ rank 0 ∷ rank 0 ∷ [] }
+
+pub zeros-in-range : InRange fromZero
+zeros-in-range zero = omega arith
+zeros-in-range (suc zero) = omega arith
+zeros-in-range (suc (suc zero)) = omega arith
+zeros-in-range (suc (suc (suc zero))) = omega arith
+zeros-in-range (suc (suc (suc (suc v)))) = omega arith
+
+pub root-ready : (file : List ℕ) (x : Rule) (flats frees table : List ℕ) (runs : ℕ) → Taken file x → Shaped file x flats frees
+    → tableWords ≤ length table → runs ≤ 128 → Ready file (x .nodes) flats frees table runs (x .count - 1) fromZero
+root-ready file x flats frees table runs t s long few =
+    let some = t .nodes-some in
+    let most = t .nodes-few in
+    record {
+      good = t .nodes-good;
+      flats-are = flats-at-root file (x .nodes) (x .count) (x .count - 1) flats (s .flats-are) (omega arith) (omega (arith, s .flats-long));
+      frees-are = frees-at-root file (x .nodes) (x .count) (x .count - 1) frees (s .frees-are) (omega arith) (omega (arith, s .frees-long));
+      table-long = long;
+      labels-few = omega (arith, t .labels, t .labels-few);
+      runs-few = few;
+      in-range = zeros-in-range;
+    }
+
+-- of a closed formula the moments are the same for every binding
+pub true-among : (M : Model) (f : Formula) (ρ : Binding) (n : ℕ) (dom s : RunSet) → scoped f noScope ≡ true → n ≤ 128
+    → ((j : ℕ) → mem dom j ≡ ltb j n) → TrueAt M f ρ dom s → TrueAmong M f n s
+true-among M f ρ n dom s closed few d h j l σ =
+    h j (omega arith)
+    ∙ (ap (λ (b : Bool). b && truth M f (at ρ j) j) (d j ∙ lt-ltb j n l) ∙ eval-closed (atMoment M j) f (at ρ j) σ closed)
+
+-- ── a table of zeros ──
+cond-same : (b : Bool) → cond b false false ≡ false
+cond-same true = refl
+cond-same false = refl
+
+none-paired : (k i j : ℕ) → pairOf noRuns k i j ≡ false
+unfolding pairOf
+none-paired k i j = rw (cond-same (eqb k 2), cond-same (eqb k 1), cond-same (eqb k 0)) refl
+
+pub zero-rows : (n : ℕ) (file : List ℕ) → RowsOf (replicate n 0) file 0 noRuns
+zero-rows n file =
+    record {
+      runs-are = refl;
+      first-given = λ k i j l hi hj. new-row n (128 * k + i) j ∙ sym (none-paired k i j);
+      second-given = λ k i j l hi hj. new-row n (512 + 128 * k + j) i ∙ sym (none-paired k i j);
+      labels-are = λ p i l h. new-row n (1024 + p) i;
+      with-itself = λ k i l h. new-row n (1088 + k) i ∙ sym (none-paired k i i);
+    }

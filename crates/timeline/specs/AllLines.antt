@@ -1,0 +1,38 @@
+-- The verdicts of all lines of a log.
+use Prim.Native.Nat.{ℕ, zero, suc, _≤_}
+use mathlib.Core.Path.{_≡_}
+use mathlib.Core.Bool.{Bool, cond}
+use mathlib.Core.List.{List}
+use lib.ListN.{getD, take}
+use Rattle.sets.specs.Sets.{mem}
+use Rattle.sets.specs.declared.RunSet.{RunSet}
+use Rattle.lines.specs.Log.{linesOf}
+use Rattle.trace.specs.declared.Record.{Record}
+use Rattle.trace.specs.Trace.{Trace, next, noTrace, steps, Accepted}
+use Rattle.trace.specs.Record.{recordOf}
+use Rattle.rules.specs.declared.Rule.{Rule}
+use Rattle.rules.specs.Rules.{formulaOf}
+use Rattle.logic.specs.declared.Verdict.{Verdict}
+use Rattle.logic.specs.declared.Verdict.the-variants.{Holds, Fails}
+use Rattle.logic.specs.Verdict.{Says}
+use Rattle.timeline.specs.declared.Timeline.{Timeline}
+
+-- the truth value once n runs are finished
+abbrev pub truthAfter : Bool → RunSet → ℕ → Bool
+truthAfter first moments zero = first
+truthAfter first moments (suc m) = mem moments m
+
+-- the verdict of line l, by how many runs are finished then
+unfoldable pub verdictAt : Timeline → ℕ → Verdict
+verdictAt x l = cond (truthAfter (x .first) (x .moments) (getD (x .done) l 0)) Holds Fails
+
+-- "At most 128 runs": no line has more that are finished
+abbrev pub FitsRuns : Timeline → Type 0
+FitsRuns x = (l : ℕ) → getD (x .done) l 0 ≤ 128
+
+-- What judging all lines at once answers for a rule and the record of an accepted log. "judged by its own bytes and the lines
+-- before it": at each line k it is the verdict of the log's first k lines.
+pub record JudgesAll (file : List ℕ) (x : Rule) (r : Record) (y : Timeline) : Type 0 where
+  pub fits : FitsRuns y
+  pub says : (log : List ℕ) (u : Trace) → Accepted log u → r ≡ recordOf u → (k : ℕ) (t : Trace) → k ≤ u .lines
+      → steps (next noTrace) (take k (linesOf log)) ≡ next t → Says t (formulaOf file x) (verdictAt y k)

@@ -1,0 +1,51 @@
+-- What evaluating a rule for all moments needs and promises.
+use Prim.Native.Nat.{ℕ, _<_, _≤_}
+use mathlib.Core.Path.{_≡_}
+use mathlib.Core.Bool.{false}
+use mathlib.Core.List.{List}
+use lib.ListN.{length, getD}
+use Rattle.sets.specs.Sets.{mem}
+use Rattle.sets.specs.declared.RunSet.{RunSet}
+use Rattle.trace.specs.declared.RunTable.{RunTable}
+use Rattle.trace.specs.Trace.{Trace, Accepted}
+use Rattle.trace.specs.Record.{recordOf}
+use Rattle.rules.specs.declared.Rule.{Rule}
+use Rattle.rules.specs.Limits.{maxNodes}
+use Rattle.rules.specs.Formula.{Formula}
+use Rattle.rules.specs.Parts.{labelCount}
+use Rattle.rules.specs.Labels.{labelBytes}
+use Rattle.rules.specs.Rules.{formulaOf}
+use Rattle.logic.specs.Satisfies.{Binding}
+use Rattle.logic.specs.Model.{Model}
+use Rattle.logic.specs.Shown.{numberFor}
+use Rattle.order.specs.declared.Order.{Order}
+use Rattle.order.specs.Order.{orderTo}
+use Rattle.order.specs.Marks.{Holds}
+use Rattle.shape.specs.Tables.{FlatFlag, FreeMask, TableOf}
+use Rattle.moments.specs.Truth.{truth}
+use Rattle.rows.specs.RankModel.{rankModel}
+
+-- "A run is finished once its end line is among the lines read": before the first end line there is none
+abbrev pub noRuns : Model
+noRuns = record { runs = 0; done = λ _. false; labelled = λ _ _. false; relates = λ _ _ _. false; alike = λ _ _. false }
+
+-- the tables of a rule's nodes: which have no "some", and which variables stand free in each
+pub record Shaped (file : List ℕ) (x : Rule) (flats frees : List ℕ) : Type 0 where
+  pub flats-are : TableOf FlatFlag file (x .nodes) (x .count) flats
+  pub frees-are : TableOf FreeMask file (x .nodes) (x .count) frees
+  pub flats-long : maxNodes ≤ length flats
+  pub frees-long : maxNodes ≤ length frees
+
+-- s has of the first n moments those at which f is true, whatever the binding
+abbrev pub TrueAmong : Model → Formula → ℕ → RunSet → Type 0
+TrueAmong M f n s = (j : ℕ) → j < n → (ρ : Binding) → mem s j ≡ truth M f ρ j
+
+-- the numbers of a rule file's labels among those of a trace
+abbrev pub WantedIn : Trace → List ℕ → List ℕ → Type 0
+WantedIn u file wanted = (p : ℕ) → p < labelCount file → getD wanted p 0 ≡ numberFor (u .labels) (labelBytes file p)
+
+-- s has the moments at which the rule is true of the runs of a record, in the order in which they finish
+abbrev pub TrueOfRanks : List ℕ → Rule → List ℕ → RunTable → Order → RunSet → Type 0
+TrueOfRanks file x wanted t o s =
+    (log : List ℕ) (u : Trace) → Accepted log u → t ≡ recordOf u .runs → Holds (orderTo (u .runs)) (u .lines) o → WantedIn u file wanted
+    → TrueAmong (rankModel u) (formulaOf file x) (o .count) s

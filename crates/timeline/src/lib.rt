@@ -1,0 +1,139 @@
+// The verdicts of all lines of a log at once.
+//
+// `judge_all` evaluates a rule for all moments of a record's log: the moments at which it is true, its truth before the first run
+// finishes, and how many runs are finished by each line. `verdict_at` reads the verdict of a line off these. A begin line changes no
+// finished run, so its verdict is that of the line before.
+ghost use mathlib.Core.Path.{_≡_};
+ghost use Prim.Native.Nat.{_≤_};
+ghost use lib.ListN.{length, getD};
+ghost use Rattle.trace.specs.Record.{Valid};
+ghost use Rattle.rules.specs.Rules.{formulaOf, Taken};
+ghost use Rattle.logic.specs.Model.{Model};
+ghost use Rattle.moments.specs.Truth.{truth};
+ghost use Rattle.moments.specs.Rows.{RowsOf};
+ghost use Rattle.rows.specs.Values.{Wanted};
+ghost use Rattle.rows.specs.ByRank.{OrderFits};
+ghost use Rattle.timeline.specs.Root.{noRuns, Shaped, TrueAmong, TrueOfRanks};
+ghost use Rattle.timeline.specs.AllLines.{truthAfter, verdictAt, JudgesAll};
+use logic::Verdict;
+use moments::Bindings;
+use moments::Rank;
+use order::Order;
+use rules::Rule;
+use sets::RunSet;
+use trace::Record;
+use trace::RunTable;
+
+// A place for each line, and place 0, which is no line's.
+const LINE_PLACES: usize = 257;
+
+// The words of the table of rows.
+const TABLE_WORDS: usize = 2184;
+
+// The moments at which a rule is true, whether it is true before the first of them, and how many runs are finished by each line.
+pub struct Timeline {
+    pub moments: RunSet,
+    pub first: bool,
+    pub done: [u8; LINE_PLACES],
+}
+
+// Of the first `count` moments those at which the rule of a file is true, by a table of rows.
+fn true_moments(
+    file: &[u8],
+    rule: Rule,
+    flats: &[u8],
+    frees: &[u8],
+    table: &[u64],
+    runs: usize,
+    count: usize,
+) -> RunSet
+    requires { ⌜ Taken (now file) rule ⌝ }
+    requires { ⌜ Shaped (now file) rule (now flats) (now frees) ⌝ }
+    requires { ⌜ (2184 ≤ length (now table)) × (runs ≤ 128) × (count ≤ 128) ⌝ }
+    ensures { λ s. ⌜ ((M : Model) → RowsOf (now (table .entry)) (now (file .entry)) runs M
+        → TrueAmong M (formulaOf (now (file .entry)) rule) count s) ⌝ }
+{
+    let none = Bindings { run: [Rank(0); 4] };
+    let root = rule.count - 1;
+    let dom = sets::below(count);
+    moments::times::times(file, rule.nodes, flats, frees, table, runs, root, none, dom)
+}
+
+// Whether the rule of a file is true before any run is finished.
+fn before_first(file: &[u8], rule: Rule, flats: &[u8], frees: &[u8]) -> bool
+    requires { ⌜ Taken (now file) rule ⌝ }
+    requires { ⌜ Shaped (now file) rule (now flats) (now frees) ⌝ }
+    ensures { λ b. ⌜ b ≡ truth noRuns (formulaOf (now (file .entry)) rule) (λ _. 0) 0 ⌝ }
+{
+    let table = [0u64; TABLE_WORDS];
+    let s = true_moments(file, rule, flats, frees, &table, 0, 1);
+    sets::has(s, 0)
+}
+
+// The moments at which the rule of a file is true of the runs of a record, in the order in which they finish.
+fn ranked_moments(
+    file: &[u8],
+    rule: Rule,
+    flats: &[u8],
+    frees: &[u8],
+    wanted: &[u8],
+    t: RunTable,
+    o: Order,
+) -> RunSet
+    requires { ⌜ Taken (now file) rule ⌝ }
+    requires { ⌜ Shaped (now file) rule (now flats) (now frees) ⌝ }
+    requires { ⌜ OrderFits t o × Wanted (now wanted) (rule .labels) ⌝ }
+    ensures { λ s. ⌜ TrueOfRanks (now (file .entry)) rule (now (wanted .entry)) t o s ⌝ }
+{
+    let mut table = [0u64; TABLE_WORDS];
+    rows::fill_rows(t, o, wanted, rule.labels, &mut table);
+    true_moments(file, rule, flats, frees, &table, o.count, o.count)
+}
+
+// Judges all lines of the log that left a record.
+pub fn judge_all(file: &[u8], rule: Rule, r: Record) -> Timeline
+    requires { ⌜ Taken (now file) rule ⌝ }
+    requires { ⌜ Valid r ⌝ }
+    ensures { λ y. ⌜ JudgesAll (now (file .entry)) rule r y ⌝ }
+{
+    let runs = r.runs;
+    let labels = r.labels;
+    let lines = r.lines.0 as usize;
+    let o = order::finish_order(runs, lines);
+    let flats = shape::flat_nodes(file, rule.nodes, rule.count);
+    let frees = shape::free_variables(file, rule.nodes, rule.count);
+    let wanted = logic::shown::wanted_numbers(file, rule.labels, labels);
+    let first = before_first(file, rule, &flats, &frees);
+    let moments = ranked_moments(file, rule, &flats, &frees, &wanted, runs, o);
+    let done = o.done;
+    Timeline {
+        moments: moments,
+        first: first,
+        done: done,
+    }
+}
+
+// The truth value once n runs are finished.
+fn truth_after(first: bool, moments: RunSet, n: usize) -> bool
+    requires { ⌜ n ≤ 128 ⌝ }
+    ensures { λ b. ⌜ b ≡ truthAfter first moments n ⌝ }
+{
+    if n == 0 {
+        return first;
+    }
+    sets::has(moments, n - 1)
+}
+
+// The verdict of a line.
+pub fn verdict_at(x: Timeline, line: usize) -> Verdict
+    requires { ⌜ (line ≤ 256) × (getD (x .done) line 0 ≤ 128) ⌝ }
+    ensures { λ w. ⌜ w ≡ verdictAt x line ⌝ }
+{
+    let n = x.done[line] as usize;
+    let first = x.first;
+    let moments = x.moments;
+    if truth_after(first, moments, n) {
+        return Verdict::Holds;
+    }
+    Verdict::Fails
+}

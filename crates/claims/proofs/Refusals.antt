@@ -27,12 +27,13 @@ use Rattle.monitor.specs.declared.Outcome.the-variants.{Refused}
 use Rattle.monitor.specs.declared.Checked.{Checked}
 use Rattle.monitor.specs.declared.Tally.{Tally}
 use Rattle.monitor.specs.declared.Tallied.{Tallied}
-use Rattle.monitor.specs.declared.LogChecked.{LogChecked}
-use Rattle.monitor.specs.declared.Ending.the-variants as Ending
+use Rattle.reading.specs.declared.LogRead.{LogRead}
+use Rattle.reading.specs.declared.Ending.the-variants as Ending
 use Rattle.monitor.specs.Handed.{HandedBy, Reached}
 use Rattle.monitor.specs.Line.{refusing, lineAfter, advanceOf, stateOf, withRule, lineOf, ChecksLine}
 use Rattle.monitor.specs.Tally.{refusingWith, counts?, talliedAfter, talliedState, talliedOf, ChecksTallied}
-use Rattle.monitor.specs.Log.{ended, notRead, linesFrom, logOf, ChecksLog}
+use Rattle.reading.specs.Reading.{ended}
+use Rattle.monitor.specs.Log.{notRead, linesFrom, logOf, ChecksLog}
 use Rattle.claims.specs.Demands.{Listed, LogRefused, unread, stopped, Demand1}
 use Rattle.claims.proofs.Numbers.{line-number}
 use Rattle.claims.proofs.Stops.{same-refusal, not-judged, End, same-ending, Stopped, stops, start-of, start-lines, first-refused}
@@ -175,7 +176,7 @@ tallied-by file r y w line a w′ h c e =
     let q = z c e in
     (q .0, ap (λ (z : Tallied × List ℕ). z .0) (q .1), ap (λ (z : Tallied × List ℕ). z .1) (q .1))
 
-log-by : (file log w out : List ℕ) (a : LogChecked) (w′ out′ : List ℕ) → ChecksLog file log w out a w′ out′
+log-by : (file log w out : List ℕ) (a : LogRead) (w′ out′ : List ℕ) → ChecksLog file log w out a w′ out′
     → (c n : ℕ) → a .ending ≡ Ending.Refused c n → Listed c × LogRefused file log w out c n a w′ out′
 log-by file log w out a w′ out′ h c n =
     subst (λ (z : End). z .0 .ending ≡ Ending.Refused c n → Listed c × LogRefused file log w out c n (z .0) (z .1) (z .2)) (sym (h .answer)) (log-of-kept file log w out c n)

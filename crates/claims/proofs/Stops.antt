@@ -16,12 +16,13 @@ use Rattle.logic.specs.declared.Verdict.{Verdict}
 use Rattle.logic.specs.declared.Verdict.the-variants as Verdict
 use Rattle.logic.specs.Verdict.{verdictByte, verdictOf}
 use Rattle.monitor.specs.declared.Outcome.the-variants.{Holds, Fails, Refused}
-use Rattle.monitor.specs.declared.Ending.the-variants as Ending
-use Rattle.monitor.specs.declared.LogChecked.{LogChecked}
+use Rattle.reading.specs.declared.Ending.the-variants as Ending
+use Rattle.reading.specs.declared.LogRead.{LogRead}
 use Rattle.monitor.specs.Line.{judged}
-use Rattle.monitor.specs.Log.{ended, linesFrom}
+use Rattle.reading.specs.Reading.{ended}
+use Rattle.monitor.specs.Log.{linesFrom}
 use Rattle.monitor.proofs.Lines.{from-none, from-taken, from-refused}
-use Rattle.monitor.proofs.LogMeans.{lines-accepted, taken-lines}
+use Rattle.reading.proofs.Lines.{lines-accepted, taken-lines}
 use Rattle.claims.specs.WhereMet.{FirstRefused}
 use Rattle.claims.proofs.AfterMet.{after-met}
 
@@ -35,7 +36,7 @@ not-judged Verdict.Fails c e = absurd (let z : _≡_ {A = ℕ} 0 1 = cc in omega
 
 -- ── the lines of a log ──
 abbrev pub End : Type 0
-End = LogChecked × List ℕ × List ℕ
+End = LogRead × List ℕ × List ℕ
 
 pub same-ending : (c d n m : ℕ) → Ending.Refused d m ≡ Ending.Refused c n → (d ≡ c) × (m ≡ n)
 same-ending c d n m e = ((cc), (cc))

@@ -29,16 +29,19 @@ use Rattle.monitor.specs.declared.Checked.{Checked}
 use Rattle.monitor.specs.declared.Tally.{Tally}
 use Rattle.monitor.specs.declared.Tallied.{Tallied}
 use Rattle.monitor.specs.Tally.{counts?, untallied, ChecksTallied}
-use Rattle.monitor.specs.declared.Ending.the-variants as Ending
-use Rattle.monitor.specs.Handed.{Left}
+use Rattle.reading.specs.declared.Ending.the-variants as Ending
+use Rattle.reading.specs.Left.{Left}
 use Rattle.monitor.specs.Line.{judged, lineAfter, stateOf, lineOf, TakenLine, ChecksLine}
-use Rattle.monitor.specs.Log.{ended, linesFrom, logOf}
+use Rattle.reading.specs.Reading.{ended}
+use Rattle.monitor.specs.Log.{linesFrom, logOf}
 use Rattle.monitor.specs.Repeated.{Result}
 use Rattle.monitor.proofs.LineMeans.{verdict-says}
 use Rattle.monitor.proofs.LineCall.{with-taken}
-use Rattle.monitor.proofs.Lines.{work-over, by-answer, from-none, from-taken}
-use Rattle.monitor.proofs.LogMeans.{same-trace, after-line, no-line}
-use Rattle.monitor.proofs.Known.{pairs-long}
+use Rattle.reading.proofs.Settled.{work-over}
+use Rattle.reading.proofs.Lines.{by-answer}
+use Rattle.monitor.proofs.Lines.{from-none, from-taken}
+use Rattle.reading.proofs.Lines.{same-trace, after-line, no-line}
+use Rattle.reading.proofs.Standing.{pairs-long}
 use Rattle.monitor.proofs.TallyLaws.{tallied-is-line}
 use Rattle.monitor.proofs.Repeated.{left-by}
 use Rattle.monitor.proofs.Failing.{tally-starts, tally-taken}

@@ -23,18 +23,20 @@ use Rattle.rules.specs.Rules.{ruleOf, formulaOf}
 use Rattle.logic.specs.Verdict.{verdictOf}
 use Rattle.monitor.specs.declared.Outcome.the-variants.{Refused}
 use Rattle.monitor.specs.declared.Checked.{Checked}
-use Rattle.monitor.specs.declared.Ending.the-variants as Ending
+use Rattle.reading.specs.declared.Ending.the-variants as Ending
 use Rattle.monitor.specs.declared.Tally.{Tally}
 use Rattle.monitor.specs.declared.Tallied.{Tallied}
-use Rattle.monitor.specs.declared.LogChecked.{LogChecked}
-use Rattle.monitor.specs.Handed.{Left, HandedBy, Reached}
+use Rattle.reading.specs.declared.LogRead.{LogRead}
+use Rattle.reading.specs.Left.{Left}
+use Rattle.monitor.specs.Handed.{HandedBy, Reached}
 use Rattle.monitor.specs.Line.{refusing, lineAfter, stateOf, withRule, lineOf, ChecksLine}
 use Rattle.monitor.specs.Tally.{refusingWith, counts?, talliedAfter, talliedState, talliedOf, ChecksTallied}
 use Rattle.monitor.specs.Log.{notRead, linesFrom, logOf, ChecksLog}
-use Rattle.monitor.proofs.Known.{one-trace}
+use Rattle.reading.proofs.Standing.{one-trace}
 use Rattle.monitor.proofs.LineCall.{no-rule}
-use Rattle.monitor.proofs.Lines.{by-answer, from-taken, from-refused}
-use Rattle.monitor.proofs.LogMeans.{same-trace, after-line, no-line}
+use Rattle.reading.proofs.Lines.{by-answer}
+use Rattle.monitor.proofs.Lines.{from-taken, from-refused}
+use Rattle.reading.proofs.Lines.{same-trace, after-line, no-line}
 use Rattle.claims.specs.WhereMet.{Unknown, MetLine, line-short, line-rule, line-unknown, line-refused, MetTallied, tallied-short, tallied-rule, tallied-unknown, tallied-wrong, tallied-refused, MetLog, log-short-work, log-short-verdicts, log-rule, log-refused}
 use Rattle.claims.proofs.Stops.{same-refusal, not-judged, End, same-ending, Stopped, stops, first-refused}
 use Rattle.claims.proofs.AfterMet.{after-met}
@@ -290,7 +292,7 @@ log-of-met file log w out c n = (forth, back)
         ∙ (ap (λ (z : List (List ℕ)). linesFrom file x noTrace z w out .0 .ending) (f .lines)
         ∙ from-stop file x w (f .line) (f .after) (f .trace) c e (linesOf (f .before)) noTrace out n (f .accepted .leaves) (omega (arith, f .number)))
 
-pub log-met : (file log w out : List ℕ) (a : LogChecked) (w′ out′ : List ℕ) → ChecksLog file log w out a w′ out′
+pub log-met : (file log w out : List ℕ) (a : LogRead) (w′ out′ : List ℕ) → ChecksLog file log w out a w′ out′
     → (c n : ℕ) → (a .ending ≡ Ending.Refused c n) ↔ MetLog file log w out c n
 log-met file log w out a w′ out′ h c n =
     subst (λ (z : End). (z .0 .ending ≡ Ending.Refused c n) ↔ MetLog file log w out c n) (sym (h .answer)) (log-of-met file log w out c n)

@@ -24,8 +24,9 @@ use Rattle.rules.specs.Cases.{p1File, p1Rule, p10File, p10Rule}
 use Rattle.rules.proofs.Worked.{p1-taken, p1-formula, p10-taken, p10-formula}
 use Rattle.logic.specs.Model.{eval}
 use Rattle.logic.specs.Verdict.{verdictOf}
-use Rattle.monitor.specs.declared.Ending.the-variants as Ending
-use Rattle.monitor.specs.Log.{byAnswer, ended, linesFrom, logOf}
+use Rattle.reading.specs.declared.Ending.the-variants as Ending
+use Rattle.reading.specs.Reading.{byAnswer, ended}
+use Rattle.monitor.specs.Log.{linesFrom, logOf}
 use Rattle.monitor.specs.Repeated.{Result}
 use Rattle.monitor.specs.Tally.{tallyOf, finishedRuns, failingFrom, tallyAfter}
 use Rattle.monitor.proofs.LineCall.{with-taken}

@@ -12,8 +12,9 @@ use Rattle.relations.specs.Compose.{Examples}
 use Rattle.rules.specs.declared.RuleRead.the-variants as RuleRead
 use Rattle.rules.specs.Rules.{ruleOf, formulaOf}
 use Rattle.rules.specs.Cases.{p1File, p1Rule, noEveningIncludesTest, p10File, p10Rule, someSameAsItself}
-use Rattle.monitor.specs.declared.Ending.the-variants as Ending
-use Rattle.monitor.specs.Log.{ended, logOf}
+use Rattle.reading.specs.declared.Ending.the-variants as Ending
+use Rattle.reading.specs.Reading.{ended}
+use Rattle.monitor.specs.Log.{logOf}
 use Rattle.monitor.specs.Tally.{tallyAfter}
 use Rattle.report.specs.Text.{reportText}
 

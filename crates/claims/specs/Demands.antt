@@ -53,15 +53,16 @@ use Rattle.rules.specs.Rules.{ruleOf, formulaOf, ReadsRule}
 use Rattle.logic.specs.declared.Verdict.{Verdict}
 use Rattle.logic.specs.Verdict.{verdictOf, Says}
 use Rattle.monitor.specs.declared.Outcome.the-variants.{Refused}
-use Rattle.monitor.specs.declared.Ending.the-variants as Ending
+use Rattle.reading.specs.declared.Ending.the-variants as Ending
 use Rattle.monitor.specs.declared.Checked.{Checked}
 use Rattle.monitor.specs.declared.Tally.{Tally}
 use Rattle.monitor.specs.declared.Tallied.{Tallied}
-use Rattle.monitor.specs.declared.LogChecked.{LogChecked}
-use Rattle.monitor.specs.Handed.{Left}
+use Rattle.reading.specs.declared.LogRead.{LogRead}
+use Rattle.reading.specs.Left.{Left}
 use Rattle.monitor.specs.Line.{judged, refusing, TakenLine, ChecksLine}
 use Rattle.monitor.specs.Tally.{counts?, refusingWith, untallied, tallyAfter, TalliedMeans, ChecksTallied}
-use Rattle.monitor.specs.Log.{ended, notRead, logOf, LogMeans, ChecksLog}
+use Rattle.reading.specs.Reading.{ended}
+use Rattle.monitor.specs.Log.{notRead, logOf, LogMeans, ChecksLog}
 use Rattle.report.specs.declared.Reported.{Reported}
 use Rattle.report.specs.declared.Reported.the-variants as Reported
 use Rattle.report.specs.Text.{refusedText}
@@ -76,7 +77,7 @@ Listed c = (1 ≤ c) × (c ≤ 24)
 
 -- A whole log that is refused with c at line n: for a buffer or the rule, before any line is read, and nothing is touched; or at the
 -- first line that is refused, and the record, the work area and the verdict bytes are those that the call leaves for the lines before.
-pub data LogRefused (file log w out : List ℕ) (c n : ℕ) (a : LogChecked) (w′ out′ : List ℕ) : Type 0 where
+pub data LogRefused (file log w out : List ℕ) (c n : ℕ) (a : LogRead) (w′ out′ : List ℕ) : Type 0 where
   unread : n ≡ 0 → a ≡ notRead c → w′ ≡ w → out′ ≡ out → LogRefused file log w out c n a w′ out′
   stopped : (f : FirstRefused log c n) → a ≡ ended (f .trace) (Ending.Refused c n)
       → logOf file (f .before) w out ≡ (ended (f .trace) Ending.Read, w′, out′)
@@ -94,9 +95,9 @@ pub record Demand1 : Type 0 where
   pub tallied-kept : (file : List ℕ) (r : Record) (y : Tally) (w line : List ℕ) (a : Tallied) (w′ : List ℕ) → ChecksTallied file r y w line a w′
       → (c : ℕ) → a .outcome ≡ Refused c → Listed c × (a ≡ refusingWith r y c) × (w′ ≡ w)
   -- a whole log
-  pub log-met : (file log w out : List ℕ) (a : LogChecked) (w′ out′ : List ℕ) → ChecksLog file log w out a w′ out′
+  pub log-met : (file log w out : List ℕ) (a : LogRead) (w′ out′ : List ℕ) → ChecksLog file log w out a w′ out′
       → (c n : ℕ) → (a .ending ≡ Ending.Refused c n) ↔ MetLog file log w out c n
-  pub log-kept : (file log w out : List ℕ) (a : LogChecked) (w′ out′ : List ℕ) → ChecksLog file log w out a w′ out′
+  pub log-kept : (file log w out : List ℕ) (a : LogRead) (w′ out′ : List ℕ) → ChecksLog file log w out a w′ out′
       → (c n : ℕ) → a .ending ≡ Ending.Refused c n → Listed c × LogRefused file log w out c n a w′ out′
   -- starting a record
   pub start-met : (w : List ℕ) (a : Started) (w′ : List ℕ) → _≡_ {A = Started × List ℕ} (a, w′) (startOf w)
@@ -162,13 +163,13 @@ pub record Demand2 : Type 0 where
   pub counted : (file : List ℕ) (x : Rule) (log : List ℕ) (t : Trace) → Accepted log t → counts? t (tallyAfter file x log t) ≡ true
   -- and after every line of a whole log, up to the first that is refused: its verdict byte, and at the end the record and the pair bytes
   pub log : (file : List ℕ) (x : Rule) → ruleOf file ≡ RuleRead.Rule x → (log w out : List ℕ) → 16384 ≤ length w → 256 ≤ length out
-      → (a : LogChecked) (w′ out′ : List ℕ) → ChecksLog file log w out a w′ out′ → LogMeans file x log w out a w′ out′
+      → (a : LogRead) (w′ out′ : List ℕ) → ChecksLog file log w out a w′ out′ → LogMeans file x log w out a w′ out′
   -- and so says each line of the report
   pub report : (file : List ℕ) (x : Rule) → ruleOf file ≡ RuleRead.Rule x → (log w out text : List ℕ) (a : Reported) (w′ out′ text′ : List ℕ)
       → Reports file log w out text a w′ out′ text′ → (n : ℕ) → a ≡ Reported.Length n → TextMeans file x log (take n text′)
   -- an accepted log is read to its end
   pub read : (file : List ℕ) (x : Rule) → ruleOf file ≡ RuleRead.Rule x → (log : List ℕ) (t : Trace) → Accepted log t → (w out : List ℕ) → 16384 ≤ length w → 256 ≤ length out
-      → (a : LogChecked) (w′ out′ : List ℕ) → ChecksLog file log w out a w′ out′ → a ≡ ended t Ending.Read
+      → (a : LogRead) (w′ out′ : List ℕ) → ChecksLog file log w out a w′ out′ → a ≡ ended t Ending.Read
 
 -- ── demand 3 ──
 -- "Take any of the 64 × 64 pairs of sets of relations, the empty set included, and any relation. That relation is in the composition

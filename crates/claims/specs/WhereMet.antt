@@ -18,7 +18,8 @@ use Rattle.rules.specs.declared.Rule.{Rule}
 use Rattle.rules.specs.declared.RuleRead.the-variants as RuleRead
 use Rattle.rules.specs.Rules.{ruleOf}
 use Rattle.monitor.specs.declared.Tally.{Tally}
-use Rattle.monitor.specs.Handed.{Left, Reached}
+use Rattle.reading.specs.Left.{Left}
+use Rattle.monitor.specs.Handed.{Reached}
 use Rattle.monitor.specs.Tally.{counts?}
 
 -- ── a line ──

@@ -24,12 +24,14 @@ use Rattle.pairs.specs.Pairs.{workOf}
 use Rattle.rules.specs.declared.Rule.{Rule}
 use Rattle.rules.specs.Rules.{ruleOf, formulaOf}
 use Rattle.logic.specs.Verdict.{verdictByte, verdictOf}
-use Rattle.monitor.specs.declared.Ending.the-variants.{Refused}
+use Rattle.reading.specs.declared.Ending.the-variants.{Refused}
 use Rattle.monitor.specs.Line.{withRule}
-use Rattle.monitor.specs.Log.{ended, notRead, linesFrom, logOf}
+use Rattle.reading.specs.Reading.{ended}
+use Rattle.monitor.specs.Log.{notRead, linesFrom, logOf}
 use Rattle.monitor.specs.Repeated.{Result}
-use Rattle.monitor.specs.Reading.{lineBetween}
-use Rattle.monitor.proofs.Lines.{from-taken, from-refused, by-answer}
+use Rattle.reading.specs.Reading.{lineBetween}
+use Rattle.reading.proofs.Lines.{by-answer}
+use Rattle.monitor.proofs.Lines.{from-taken, from-refused}
 
 -- ── what is looked at ──
 drop-take : (p m : ℕ) (l : List ℕ) → drop p (take m l) ≡ take (m - p) (drop p l)

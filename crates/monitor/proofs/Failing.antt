@@ -16,10 +16,10 @@ use Rattle.rules.specs.Rules.{formulaOf}
 use Rattle.logic.specs.declared.Verdict.{Verdict}
 use Rattle.logic.specs.declared.Verdict.the-variants as Verdict
 use Rattle.logic.specs.Verdict.{verdictOf}
-use Rattle.monitor.specs.Log.{byAnswer}
+use Rattle.reading.specs.Reading.{byAnswer}
 use Rattle.monitor.specs.Tally.{tallyOf, failed, counts?, failingFrom, tallyAfter, finishedRuns}
-use Rattle.monitor.proofs.Lines.{by-answer}
-use Rattle.monitor.proofs.LogMeans.{same-trace, after-line, no-line, line-alone, lines-counted}
+use Rattle.reading.proofs.Lines.{by-answer}
+use Rattle.reading.proofs.Lines.{same-trace, after-line, no-line, line-alone, lines-counted}
 
 failed-most : (v : Verdict) → failed v ≤ 1
 failed-most Verdict.Holds = omega arith

@@ -16,10 +16,11 @@ use Rattle.rules.specs.declared.RuleRead.{RuleRead}
 use Rattle.rules.specs.declared.RuleRead.the-variants as RuleRead
 use Rattle.rules.specs.Rules.{ruleOf, Taken, ReadsRule}
 use Rattle.monitor.specs.declared.Checked.{Checked}
-use Rattle.monitor.specs.Handed.{Left, Standing, HandedBy, Reached}
+use Rattle.reading.specs.Left.{Left, Standing}
+use Rattle.monitor.specs.Handed.{HandedBy, Reached}
 use Rattle.monitor.specs.Line.{refusing, stateOf, withRule, lineOf, LineMeans, ChecksLine}
 use Rattle.monitor.specs.Step.{Advances}
-use Rattle.monitor.proofs.Known.{pairs-long}
+use Rattle.reading.proofs.Standing.{pairs-long}
 use Rattle.monitor.proofs.LineMeans.{line-means}
 
 -- ── rules ──

@@ -12,18 +12,18 @@ use Rattle.rules.specs.declared.Rule.{Rule}
 use Rattle.rules.specs.declared.RuleRead.{RuleRead}
 use Rattle.rules.specs.declared.RuleRead.the-variants as RuleRead
 use Rattle.rules.specs.Rules.{ruleOf, ReadsRule}
-use Rattle.monitor.specs.declared.Ending.the-variants.{Refused}
-use Rattle.monitor.specs.declared.LogChecked.{LogChecked}
+use Rattle.reading.specs.declared.Ending.the-variants.{Refused}
+use Rattle.reading.specs.declared.LogRead.{LogRead}
 use Rattle.monitor.specs.Log.{notRead, linesFrom, logOf, ChecksLog}
 use Rattle.monitor.proofs.LineCall.{with-refused, with-taken}
 use Rattle.monitor.proofs.LogMeans.{checks-log}
 
-pub not-read : (s : Record) (n : ℕ) → s ≡ recordOf noTrace → _≡_ {A = LogChecked} (record { state = s; ending = Refused n 0 }) (notRead n)
+pub not-read : (s : Record) (n : ℕ) → s ≡ recordOf noTrace → _≡_ {A = LogRead} (record { state = s; ending = Refused n 0 }) (notRead n)
 not-read s n e i = record { state = e i; ending = Refused n 0 }
 
-module _ (file log w out : List ℕ) (a : LogChecked) where
+module _ (file log w out : List ℕ) (a : LogRead) where
   abbrev Whole : Type 0
-  Whole = LogChecked × List ℕ × List ℕ
+  Whole = LogRead × List ℕ × List ℕ
 
   same : (n : ℕ) → a ≡ notRead n → _≡_ {A = Whole} (a, w, out) (notRead n, w, out)
   same n e i = (e i, w, out)

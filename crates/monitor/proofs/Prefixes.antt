@@ -1,6 +1,6 @@
--- The verdict byte of line k + 1 is the verdict of what the first k + 1 lines leave.
--- Each line stores its byte at the count of the lines before it, and no later line touches it.
-use Prim.Native.Nat.{ℕ, zero, suc, _+_, _<_}
+-- The verdict byte of line k + 1 is the verdict of what the first k + 1 lines leave: each line stores its byte at the count of the
+-- lines before it, and no later line touches it. The bytes behind those of the lines stay.
+use Prim.Native.Nat.{ℕ, zero, suc, _+_, _<_, _≤_}
 use mathlib.Core.Path.{_≡_, ap, sym, _∙_}
 use mathlib.Core.List.{List, [], _∷_}
 use native.Mathlib.Omega.{arith}
@@ -8,6 +8,7 @@ use lib.ListN.{length, getD, set, take, length-set}
 use lib.Seq.{getD-set-same, getD-set-other}
 use Rattle.lines.specs.Line.{eventOf}
 use Rattle.trace.specs.Trace.{Trace, Answer, next, refused, apply, steps}
+use Rattle.trace.specs.Record.{recordOf}
 use Rattle.trace.proofs.Taken.{not-taken, refused-stays, step-lines}
 use Rattle.trace.proofs.Grown.{step-is}
 use Rattle.rules.specs.declared.Rule.{Rule}
@@ -15,7 +16,8 @@ use Rattle.rules.specs.Rules.{formulaOf}
 use Rattle.logic.specs.Verdict.{verdictByte, verdictOf}
 use Rattle.monitor.specs.Log.{linesFrom}
 use Rattle.monitor.specs.Repeated.{Result}
-use Rattle.monitor.proofs.Lines.{from-none, from-taken, from-refused, by-answer}
+use Rattle.reading.proofs.Lines.{by-answer}
+use Rattle.monitor.proofs.Lines.{from-none, from-taken, from-refused}
 
 module _ (file : List ℕ) (x : Rule) (w : List ℕ) where
   -- the verdict buffer after the lines
@@ -63,3 +65,37 @@ module _ (file : List ℕ) (x : Rule) (w : List ℕ) where
       (λ c p.
       let q : steps (refused c) (take (suc k) ls) ≡ next u = ap (λ (a : Answer). steps a (take (suc k) ls)) (sym (step-is t l ∙ p)) ∙ e in
       not-taken c u (sym (refused-stays c (take (suc k) ls)) ∙ q))
+
+  -- ── the rest of the buffer ──
+  abbrev countOf : Result → ℕ
+  countOf z = z .0 .state .lines .0
+
+  lines-grow : (ls : List (List ℕ)) (t : Trace) (out : List ℕ) → t .lines ≤ countOf (linesFrom file x t ls w out)
+  unfolding recordOf
+  lines-grow [] t out = let z : countOf (linesFrom file x t [] w out) ≡ t .lines = ap countOf (from-none file x t w out) in omega arith
+  lines-grow (l ∷ ls) t out =
+      by-answer t l
+      (λ v p.
+      let z = ap countOf (from-taken file x t l ls w out v p) in
+      omega (arith, z, step-lines t v (eventOf l) p, lines-grow ls v (set out (t .lines) (verdictByte (verdictOf v (formulaOf file x))))))
+      (λ c p. let z : countOf (linesFrom file x t (l ∷ ls) w out) ≡ t .lines = ap countOf (from-refused file x t l ls w out c p) in omega arith)
+
+  pub bytes-rest : (ls : List (List ℕ)) (t : Trace) (out : List ℕ) (k : ℕ) → countOf (linesFrom file x t ls w out) ≤ k → getD (linesFrom file x t ls w out .2) k 0 ≡ getD out k 0
+  bytes-rest [] t out k h = ap (λ (z : Result). getD (z .2) k 0) (from-none file x t w out)
+  bytes-rest (l ∷ ls) t out k h =
+      by-answer t l
+      (λ v p.
+      let o : List ℕ = set out (t .lines) (verdictByte (verdictOf v (formulaOf file x))) in
+      let f = from-taken file x t l ls w out v p in
+      ap (λ (z : Result). getD (z .2) k 0) f
+      ∙ (bytes-rest ls v o k (omega (arith, h, ap countOf f)) ∙ getD-set-other out (t .lines) k (verdictByte (verdictOf v (formulaOf file x))) 0 (λ e. omega (arith, h, ap countOf f, lines-grow ls v o, step-lines t v (eventOf l) p))))
+      (λ c p. ap (λ (z : Result). getD (z .2) k 0) (from-refused file x t l ls w out c p))
+
+  pub bytes-size : (ls : List (List ℕ)) (t : Trace) (out : List ℕ) → length (linesFrom file x t ls w out .2) ≡ length out
+  bytes-size [] t out = ap (λ (z : Result). length (z .2)) (from-none file x t w out)
+  bytes-size (l ∷ ls) t out =
+      by-answer t l
+      (λ v p.
+      let b : ℕ = verdictByte (verdictOf v (formulaOf file x)) in
+      ap (λ (z : Result). length (z .2)) (from-taken file x t l ls w out v p) ∙ (bytes-size ls v (set out (t .lines) b) ∙ length-set out (t .lines) b))
+      (λ c p. ap (λ (z : Result). length (z .2)) (from-refused file x t l ls w out c p))

@@ -23,16 +23,17 @@ use Rattle.logic.specs.declared.Verdict.{Verdict}
 use Rattle.logic.specs.Verdict.{verdictByte, verdictOf}
 use Rattle.monitor.specs.declared.Outcome.the-variants as Outcome
 use Rattle.monitor.specs.declared.Checked.{Checked}
-use Rattle.monitor.specs.declared.Ending.the-variants.{Refused}
-use Rattle.monitor.specs.Handed.{Left}
+use Rattle.reading.specs.declared.Ending.the-variants.{Refused}
+use Rattle.reading.specs.Left.{Left}
 use Rattle.monitor.specs.Line.{stateOf, lineOf, advanceOf, ChecksLine}
 use Rattle.monitor.specs.Log.{linesFrom, logOf}
 use Rattle.monitor.specs.Repeated.{Result, endedAt, Answered, Repeats}
-use Rattle.monitor.proofs.Settled.{work-long}
+use Rattle.reading.proofs.Settled.{work-long}
 use Rattle.monitor.proofs.LineMeans.{judged-same, judged-taken, by-line}
-use Rattle.monitor.proofs.Known.{pairs-long, one-trace}
+use Rattle.reading.proofs.Standing.{pairs-long, one-trace}
 use Rattle.monitor.proofs.LineCall.{with-taken, standing-of, line-known}
-use Rattle.monitor.proofs.Lines.{work-over, from-none, from-taken, from-refused}
+use Rattle.reading.proofs.Settled.{work-over}
+use Rattle.monitor.proofs.Lines.{from-none, from-taken, from-refused}
 
 -- what the call is handed after the lines of a log
 pub left-by : (log : List ℕ) (t : Trace) → Accepted log t → (w : List ℕ) → Left log t (recordOf t) (workOf (t .runs) w)

@@ -26,7 +26,7 @@ use Rattle.monitor.specs.declared.Checked.{Checked}
 use Rattle.monitor.specs.declared.Tally.{Tally}
 use Rattle.monitor.specs.Line.{judged}
 use Rattle.monitor.specs.Tally.{finishedRuns, tallyOf, failed, counts?, refusingWith, CountsRecord, MatchesRecord, CountsLine}
-use Rattle.monitor.proofs.Settled.{held-runs}
+use Rattle.reading.proofs.Settled.{held-runs}
 use Rattle.monitor.proofs.LineMeans.{judged-same, judged-taken}
 
 -- ── finished runs ──

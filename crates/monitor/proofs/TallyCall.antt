@@ -19,10 +19,11 @@ use Rattle.logic.specs.Verdict.{verdictOf}
 use Rattle.monitor.specs.declared.Checked.{Checked}
 use Rattle.monitor.specs.declared.Tally.{Tally}
 use Rattle.monitor.specs.declared.Tallied.{Tallied}
-use Rattle.monitor.specs.Handed.{Standing, HandedBy, Reached}
+use Rattle.reading.specs.Left.{Standing}
+use Rattle.monitor.specs.Handed.{HandedBy, Reached}
 use Rattle.monitor.specs.Step.{Advances}
 use Rattle.monitor.specs.Tally.{counts?, refusingWith, MatchesRecord, CountsLine, AdvancesTallied, talliedAfter, talliedState, talliedOf, ChecksTallied}
-use Rattle.monitor.proofs.Known.{standing-fits}
+use Rattle.reading.proofs.Standing.{standing-fits}
 use Rattle.monitor.proofs.LineMeans.{by-line}
 use Rattle.monitor.proofs.LineCall.{with-refused, with-taken, no-rule, standing-of, not-reached}
 use Rattle.monitor.proofs.Tallies.{failing-most}

@@ -30,14 +30,15 @@ use Rattle.monitor.specs.declared.Outcome.the-variants.{Refused}
 use Rattle.monitor.specs.declared.Checked.{Checked}
 use Rattle.monitor.specs.declared.Tally.{Tally}
 use Rattle.monitor.specs.declared.Tallied.{Tallied}
-use Rattle.monitor.specs.Handed.{Left, HandedBy, Reached}
+use Rattle.reading.specs.Left.{Left}
+use Rattle.monitor.specs.Handed.{HandedBy, Reached}
 use Rattle.monitor.specs.Line.{judged, refusing, lineAfter, stateOf, withRule, lineOf, LineMeans}
 use Rattle.monitor.specs.Tally.{finishedRuns, tallyOf, failed, TallyCounts, untallied, TalliedMeans, beginsRun, endsRun, beginLines, endLines, counts?, refusingWith, talliedAfter, talliedState, talliedOf, tallyAfter, ChecksTallied}
-use Rattle.monitor.proofs.Known.{pairs-long}
+use Rattle.reading.proofs.Standing.{pairs-long}
 use Rattle.monitor.proofs.LineMeans.{judged-same, judged-taken, line-means}
 use Rattle.monitor.proofs.LineCall.{with-taken}
 use Rattle.monitor.proofs.Tallies.{finished-same, finished-most}
-use Rattle.monitor.proofs.LogMeans.{same-trace}
+use Rattle.reading.proofs.Lines.{same-trace}
 use Rattle.monitor.proofs.Failing.{tally-goes-on}
 
 -- ── the counts are those of the lines ──

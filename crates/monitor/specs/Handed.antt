@@ -5,24 +5,11 @@ use mathlib.Core.List.{List}
 use mathlib.Core.Option.{Option, none, some}
 use lib.ListN.{length}
 use Rattle.trace.specs.declared.Record.{Record}
-use Rattle.trace.specs.Trace.{Trace, Accepted}
-use Rattle.trace.specs.Record.{recordOf}
-use Rattle.pairs.specs.Pairs.{workOf}
+use Rattle.trace.specs.Trace.{Trace}
 use Rattle.rules.specs.declared.Rule.{Rule}
 use Rattle.rules.specs.declared.RuleRead.the-variants as RuleRead
 use Rattle.rules.specs.Rules.{ruleOf}
-
--- the lines of the log leave the record r and the pair bytes of the work area w
-pub record Left (log : List ℕ) (t : Trace) (r : Record) (w : List ℕ) : Type 0 where
-  pub accepted : Accepted log t
-  pub encoded : r ≡ recordOf t
-  pub pairs : w ≡ workOf (t .runs) w
-
--- some accepted lines leave them
-pub record Standing (r : Record) (w : List ℕ) : Type 0 where
-  pub log : List ℕ
-  pub trace : Trace
-  pub left : Left log trace r w
+use Rattle.reading.specs.Left.{Left}
 
 -- "21 no sequence of accepted lines leaves the record handed in, or the pair bytes are not that record's": the trace of the lines
 -- that leave them, or none

@@ -3,5 +3,5 @@ pub mod Line
 pub mod Step
 pub mod Log
 pub mod Tally
-pub mod Reading
+pub mod Written
 pub mod Repeated

@@ -21,7 +21,8 @@ use Rattle.logic.specs.Verdict.{verdictOf, Says}
 use Rattle.monitor.specs.declared.Outcome.{Outcome}
 use Rattle.monitor.specs.declared.Outcome.the-variants.{Holds, Fails, Refused}
 use Rattle.monitor.specs.declared.Checked.{Checked}
-use Rattle.monitor.specs.Handed.{Left, HandedBy, Reached}
+use Rattle.reading.specs.Left.{Left}
+use Rattle.monitor.specs.Handed.{HandedBy, Reached}
 
 -- the outcome of a line that is taken
 abbrev pub judged : Verdict → Outcome

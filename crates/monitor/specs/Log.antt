@@ -8,31 +8,23 @@ use lib.Dec.{ltb}
 use lib.ListN.{length, getD, set, take}
 use Rattle.lines.specs.Line.{eventOf}
 use Rattle.lines.specs.Log.{linesOf}
-use Rattle.trace.specs.Trace.{Trace, Answer, next, refused, noTrace, apply, steps, Accepted}
+use Rattle.trace.specs.Trace.{Trace, next, refused, noTrace, apply, steps, Accepted}
 use Rattle.trace.specs.Record.{recordOf}
 use Rattle.pairs.specs.Pairs.{workOf}
 use Rattle.rules.specs.declared.Rule.{Rule}
 use Rattle.rules.specs.declared.RuleRead.the-variants as RuleRead
 use Rattle.rules.specs.Rules.{ruleOf, formulaOf}
 use Rattle.logic.specs.Verdict.{verdictByte, verdictOf, Says}
-use Rattle.monitor.specs.declared.Ending.{Ending}
-use Rattle.monitor.specs.declared.Ending.the-variants.{Read, Refused}
-use Rattle.monitor.specs.declared.LogChecked.{LogChecked}
+use Rattle.reading.specs.declared.Ending.{Ending}
+use Rattle.reading.specs.declared.Ending.the-variants.{Read, Refused}
+use Rattle.reading.specs.declared.LogRead.{LogRead}
+use Rattle.reading.specs.Reading.{byAnswer, ended}
 use Rattle.monitor.specs.Line.{withRule}
-
--- by what a line leaves
-unfoldable pub byAnswer : {A : Type 0} → Answer → (Trace → A) → (ℕ → A) → A
-byAnswer (next u) f g = f u
-byAnswer (refused c) f g = g c
-
--- the record of the lines that t stands for, and how the reading ended
-abbrev pub ended : Trace → Ending → LogChecked
-ended t e = record { state = recordOf t; ending = e }
 
 -- The lines that are left, after those that t stands for: the answer, the work area and the verdict buffer. "The whole-log call
 -- adds the line number, stops there, and keeps the record and work area of the lines before it, their verdict bytes, and the rest
 -- of the verdict buffer untouched".
-unfoldable pub linesFrom : List ℕ → Rule → Trace → List (List ℕ) → List ℕ → List ℕ → LogChecked × List ℕ × List ℕ
+unfoldable pub linesFrom : List ℕ → Rule → Trace → List (List ℕ) → List ℕ → List ℕ → LogRead × List ℕ × List ℕ
 linesFrom file x t [] w out = (ended t Read, workOf (t .runs) w, out)
 linesFrom file x t (l ∷ ls) w out =
     byAnswer (apply t (eventOf l))
@@ -40,25 +32,25 @@ linesFrom file x t (l ∷ ls) w out =
     (λ c. (ended t (Refused c (t .lines + 1)), workOf (t .runs) w, out))
 
 -- "refused for 20 or the rule, it touches no buffer, names line 0 and answers the record of no lines"
-abbrev pub notRead : ℕ → LogChecked
+abbrev pub notRead : ℕ → LogRead
 notRead n = ended noTrace (Refused n 0)
 
 -- 20 for either buffer, then the rule, then the lines
-unfoldable pub logOf : List ℕ → List ℕ → List ℕ → List ℕ → LogChecked × List ℕ × List ℕ
+unfoldable pub logOf : List ℕ → List ℕ → List ℕ → List ℕ → LogRead × List ℕ × List ℕ
 logOf file log w out =
     cond (ltb (length w) 16384 || ltb (length out) 256) (notRead 20, w, out)
     (withRule (ruleOf file) (λ n. (notRead n, w, out)) (λ x. linesFrom file x noTrace (linesOf log) w out))
 
 -- ── what the answer says of the log ──
 -- every line is taken: the log is accepted, and its record and pair bytes are answered
-pub record LogTaken (log w : List ℕ) (a : LogChecked) (w′ : List ℕ) : Type 0 where
+pub record LogTaken (log w : List ℕ) (a : LogRead) (w′ : List ℕ) : Type 0 where
   pub trace : Trace
   pub accepted : Accepted log trace
   pub state : a .state ≡ recordOf trace
   pub pairs : w′ ≡ workOf (trace .runs) w
 
 -- line n is refused with c, by its own bytes or by the lines before it; these are an accepted log, which leaves what is answered
-pub record LogStopped (log w : List ℕ) (c n : ℕ) (a : LogChecked) (w′ : List ℕ) : Type 0 where
+pub record LogStopped (log w : List ℕ) (c n : ℕ) (a : LogRead) (w′ : List ℕ) : Type 0 where
   pub before : List ℕ
   pub last : List ℕ
   pub after : List (List ℕ)
@@ -75,7 +67,7 @@ pub record LineByte (file : List ℕ) (x : Rule) (u : Trace) (b : ℕ) : Type 0 
   pub byte : b ≡ verdictByte (verdictOf u (formulaOf file x))
   pub verdict : Says u (formulaOf file x) (verdictOf u (formulaOf file x))
 
-pub record LogMeans (file : List ℕ) (x : Rule) (log w out : List ℕ) (a : LogChecked) (w′ out′ : List ℕ) : Type 0 where
+pub record LogMeans (file : List ℕ) (x : Rule) (log w out : List ℕ) (a : LogRead) (w′ out′ : List ℕ) : Type 0 where
   pub whole : a .ending ≡ Read → LogTaken log w a w′
   pub stops : (c n : ℕ) → a .ending ≡ Refused c n → LogStopped log w c n a w′
   -- a byte a line, of every line that is taken
@@ -85,6 +77,6 @@ pub record LogMeans (file : List ℕ) (x : Rule) (log w out : List ℕ) (a : Log
   pub size : length out′ ≡ length out
 
 -- the contract, for every input; and what the answer means where the rule is taken and the buffers are long enough
-pub record ChecksLog (file log w out : List ℕ) (a : LogChecked) (w′ out′ : List ℕ) : Type 0 where
-  pub answer : _≡_ {A = LogChecked × List ℕ × List ℕ} (a, w′, out′) (logOf file log w out)
+pub record ChecksLog (file log w out : List ℕ) (a : LogRead) (w′ out′ : List ℕ) : Type 0 where
+  pub answer : _≡_ {A = LogRead × List ℕ × List ℕ} (a, w′, out′) (logOf file log w out)
   pub meaning : (x : Rule) → ruleOf file ≡ RuleRead.Rule x → 16384 ≤ length w → 256 ≤ length out → LogMeans file x log w out a w′ out′

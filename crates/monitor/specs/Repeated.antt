@@ -9,13 +9,13 @@ use Rattle.logic.specs.declared.Verdict.{Verdict}
 use Rattle.logic.specs.Verdict.{verdictByte}
 use Rattle.monitor.specs.declared.Outcome.the-variants as Outcome
 use Rattle.monitor.specs.declared.Checked.{Checked}
-use Rattle.monitor.specs.declared.Ending.{Ending}
-use Rattle.monitor.specs.declared.Ending.the-variants.{Read, Refused}
-use Rattle.monitor.specs.declared.LogChecked.{LogChecked}
+use Rattle.reading.specs.declared.Ending.{Ending}
+use Rattle.reading.specs.declared.Ending.the-variants.{Read, Refused}
+use Rattle.reading.specs.declared.LogRead.{LogRead}
 use Rattle.monitor.specs.Line.{judged, ChecksLine}
 
 abbrev pub Result : Type 0
-Result = LogChecked × List ℕ × List ℕ
+Result = LogRead × List ℕ × List ℕ
 
 abbrev pub endedAt : Record → Ending → List ℕ → List ℕ → Result
 endedAt r e w out = (record { state = r; ending = e }, w, out)

@@ -25,9 +25,10 @@ use Rattle.monitor.specs.declared.Outcome.the-variants.{Refused}
 use Rattle.monitor.specs.declared.Checked.{Checked}
 use Rattle.monitor.specs.declared.Tally.{Tally}
 use Rattle.monitor.specs.declared.Tallied.{Tallied}
-use Rattle.monitor.specs.Handed.{Left, HandedBy, Reached}
+use Rattle.reading.specs.Left.{Left}
+use Rattle.monitor.specs.Handed.{HandedBy, Reached}
 use Rattle.monitor.specs.Line.{judged, withRule, LineMeans}
-use Rattle.monitor.specs.Log.{byAnswer}
+use Rattle.reading.specs.Reading.{byAnswer}
 
 -- how many runs are finished
 unfoldable pub finishedRuns : List Run → ℕ

@@ -3,7 +3,7 @@ ghost use mathlib.Core.Path.{_≡_};
 ghost use Prim.Native.Nat.{_≤_};
 ghost use Rattle.trace.specs.Steps.{held};
 ghost use Rattle.rules.specs.Rules.{Taken};
-ghost use Rattle.monitor.specs.Handed.{Standing};
+ghost use Rattle.reading.specs.Left.{Standing};
 ghost use Rattle.monitor.specs.Tally.{finishedRuns, refusingWith, untallied, CountsRecord, MatchesRecord, CountsLine, AdvancesTallied};
 use crate::Checked;
 use crate::Outcome;

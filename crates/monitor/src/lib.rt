@@ -2,12 +2,15 @@
 //
 // `check_line` takes one line on a record and a work area, `check_line_tallied` the same with a tally, `check_log` a whole log.
 // `check_line_lent` is lent the tally, and updates it where it stands; `lend_tally` calls it for a caller that holds a tally by value.
-// Inside, `step::advance` takes a line on a record and a work area that are known to be good, and all of them end in it.
+// Inside, `step::advance` takes a line on a record and a work area that are known to be good; the calls on one line all end in it.
+// `log::read_lines` reads all lines of a log, then judges them at once.
 ghost use mathlib.Core.Path.{_≡_};
 ghost use Rattle.monitor.specs.Line.{ChecksLine};
 ghost use Rattle.monitor.specs.Tally.{ChecksTallied, ChecksLent};
 ghost use Rattle.monitor.specs.Log.{notRead, ChecksLog};
 pub use counts::tally_of;
+pub use reading::Ending;
+pub use reading::LogRead;
 use rules::RuleRead;
 use trace::Record;
 
@@ -50,30 +53,6 @@ pub struct Tallied {
     pub outcome: Outcome,
 }
 
-// A whole log is read to its end, or refused: the number, and the line (0 where no line is to blame).
-pub enum Ending {
-    Read,
-    Refused { number: u8, line: u16 },
-}
-
-// The record of the lines that were taken, and how the reading ended.
-pub struct LogChecked {
-    pub state: Record,
-    pub ending: Ending,
-}
-
-// Where the next line of a log starts, or how the reading ended.
-enum Turn {
-    More(usize),
-    Ended(Ending),
-}
-
-// The record after the line at a place of a log, and what comes next.
-struct Turned {
-    state: Record,
-    turn: Turn,
-}
-
 // One line on a record and a work area, with a rule file: the new record and the verdict, or the refusal and the same record.
 pub fn check_line(file: &[u8], r: Record, work: &mut [u8], line: &[u8]) -> Checked
     ensures { λ c. ⌜ ChecksLine (now (file .entry)) r (now (work .entry)) (now (line .entry)) c (now (work .exit)) ⌝ }
@@ -93,7 +72,7 @@ pub fn check_line(file: &[u8], r: Record, work: &mut [u8], line: &[u8]) -> Check
             };
         }
         RuleRead::Rule(rule) => {
-            if !step::known(r, work) {
+            if !reading::known(r, work) {
                 return Checked {
                     state: r,
                     outcome: Outcome::Refused(21),
@@ -115,7 +94,7 @@ pub fn check_line_tallied(file: &[u8], r: Record, y: Tally, work: &mut [u8], lin
     match x {
         RuleRead::Refused(n) => return counts::refuse_tallied(r, y, n),
         RuleRead::Rule(rule) => {
-            if !step::known(r, work) {
+            if !reading::known(r, work) {
                 return counts::refuse_tallied(r, y, 21);
             }
             return counts::advance_tallied(file, rule, r, y, work, line);
@@ -151,18 +130,18 @@ pub fn lend_tally(file: &[u8], r: Record, y: Tally, work: &mut [u8], line: &[u8]
 }
 
 // A log of which no line is read.
-fn not_read(n: u8) -> LogChecked
+fn not_read(n: u8) -> LogRead
     ensures { λ a. ⌜ a ≡ notRead n ⌝ }
 {
     let none = trace::no_lines();
-    LogChecked {
+    LogRead {
         state: none,
         ending: Ending::Refused { number: n, line: 0 },
     }
 }
 
 // A whole log with a rule file: the record of the lines that are taken, their verdict bytes, and how the reading ended.
-pub fn check_log(file: &[u8], log: &[u8], work: &mut [u8], verdicts: &mut [u8]) -> LogChecked
+pub fn check_log(file: &[u8], log: &[u8], work: &mut [u8], verdicts: &mut [u8]) -> LogRead
     ensures { λ a. ⌜ ChecksLog (now (file .entry)) (now (log .entry)) (now (work .entry)) (now (verdicts .entry)) a (now (work .exit)) (now (verdicts .exit)) ⌝ }
 {
     if work.len() < PAIR_BYTES {

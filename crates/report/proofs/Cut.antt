@@ -17,7 +17,7 @@ use Rattle.rules.specs.declared.RuleRead.the-variants as RuleRead
 use Rattle.rules.specs.Rules.{ruleOf}
 use Rattle.rules.proofs.Rules.{rule-taken}
 use Rattle.rules.proofs.Cut.{first-bytes-decide-rule}
-use Rattle.monitor.specs.declared.Ending.{Ending}
+use Rattle.reading.specs.declared.Ending.{Ending}
 use Rattle.monitor.specs.Log.{logOf}
 use Rattle.monitor.specs.Tally.{tallyOf}
 use Rattle.monitor.specs.Repeated.{Result}

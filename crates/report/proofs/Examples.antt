@@ -16,7 +16,7 @@ use Rattle.rules.specs.Cases.{p1File, p1Rule}
 use Rattle.rules.proofs.Worked.{p1-taken}
 use Rattle.logic.specs.Model.{eval}
 use Rattle.logic.specs.Verdict.{verdictOf}
-use Rattle.monitor.specs.Log.{byAnswer}
+use Rattle.reading.specs.Reading.{byAnswer}
 use Rattle.monitor.specs.Tally.{tallyOf, finishedRuns}
 use Rattle.monitor.proofs.LineCall.{with-taken}
 use Rattle.report.specs.Text.{decimal, refusedText, tallyText, textFrom, reportText}

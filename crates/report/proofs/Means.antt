@@ -19,9 +19,9 @@ use Rattle.logic.specs.declared.Verdict.the-variants.{Holds, Fails}
 use Rattle.logic.specs.Verdict.{verdictOf}
 use Rattle.monitor.specs.declared.Tally.{Tally}
 use Rattle.monitor.specs.Tally.{tallyOf, failed, failingFrom, tallyAfter}
-use Rattle.monitor.proofs.Lines.{by-answer}
+use Rattle.reading.proofs.Lines.{by-answer}
 use Rattle.monitor.proofs.LineMeans.{verdict-says}
-use Rattle.monitor.proofs.LogMeans.{same-trace, after-line, no-line, lines-counted}
+use Rattle.reading.proofs.Lines.{same-trace, after-line, no-line, lines-counted}
 use Rattle.monitor.proofs.Failing.{fails-taken, fails-none}
 use Rattle.report.specs.Text.{decimal, letter, lineText, refusedText, countText, tallyText, textFrom}
 use Rattle.report.specs.Report.{TextMeans}

@@ -8,8 +8,8 @@ use native.Mathlib.Numerals.{add-one}
 use lib.Dec.{eqb}
 use lib.ListN.{length, getD}
 use borrow.Author.Tests.{eq-eqb, ne-eqb}
-use Rattle.monitor.specs.declared.Ending.{Ending}
-use Rattle.monitor.specs.declared.Ending.the-variants.{Read, Refused}
+use Rattle.reading.specs.declared.Ending.{Ending}
+use Rattle.reading.specs.declared.Ending.the-variants.{Read, Refused}
 use Rattle.monitor.specs.declared.Tally.{Tally}
 use Rattle.report.specs.Text.{decimal, letterLine, refusedText, countText, tallyText}
 use Rattle.report.specs.Writing.{Writes, WritesFew, byteLetter, byteFails, endingText, unread?, LineLow, linesTo, failsTo}

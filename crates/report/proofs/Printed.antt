@@ -18,10 +18,12 @@ use Rattle.rules.specs.Rules.{formulaOf}
 use Rattle.logic.specs.declared.Verdict.{Verdict}
 use Rattle.logic.specs.declared.Verdict.the-variants.{Holds, Fails}
 use Rattle.logic.specs.Verdict.{verdictByte, verdictOf}
-use Rattle.monitor.specs.Log.{byAnswer, linesFrom}
+use Rattle.reading.specs.Reading.{byAnswer}
+use Rattle.monitor.specs.Log.{linesFrom}
 use Rattle.monitor.specs.Tally.{tallyOf, failed}
 use Rattle.monitor.specs.Repeated.{Result}
-use Rattle.monitor.proofs.Lines.{by-answer, from-none, from-taken, from-refused}
+use Rattle.reading.proofs.Lines.{by-answer}
+use Rattle.monitor.proofs.Lines.{from-none, from-taken, from-refused}
 use Rattle.monitor.proofs.Prefixes.{line-byte}
 use Rattle.report.specs.Text.{letter, letterLine, lineText, refusedText, tallyText, textFrom}
 use Rattle.report.specs.Writing.{byteLetter, byteFails, linesTo, failsTo, recordText, LineLow}

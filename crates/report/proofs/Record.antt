@@ -10,7 +10,7 @@ use Rattle.lists.proofs.Lists.{append-nil}
 use Rattle.trace.specs.declared.Record.{Record}
 use Rattle.trace.specs.Trace.{Trace}
 use Rattle.trace.specs.Record.{recordOf}
-use Rattle.monitor.specs.declared.LogChecked.{LogChecked}
+use Rattle.reading.specs.declared.LogRead.{LogRead}
 use Rattle.monitor.specs.declared.Tally.{Tally}
 use Rattle.monitor.specs.Tally.{tallyOf, CountsRecord}
 use Rattle.monitor.proofs.Tallies.{finished-most}
@@ -18,16 +18,16 @@ use Rattle.report.specs.Text.{tallyText}
 use Rattle.report.specs.Writing.{Writes, WritesFew, endingText, unread?, linesTo, failsTo, recordText, Printable, OfTrace, PrintsRecord}
 use Rattle.report.proofs.Writing.{then, writes-same}
 
-lines-of : (a : LogChecked) (t : Trace) → a .state ≡ recordOf t → a .state .lines .0 ≡ t .lines
+lines-of : (a : LogRead) (t : Trace) → a .state ≡ recordOf t → a .state .lines .0 ≡ t .lines
 unfolding recordOf
 lines-of a t e = ap (λ (r : Record). r .lines .0) e
 
-runs-of : (a : LogChecked) (t : Trace) → a .state ≡ recordOf t → a .state .runs .count ≡ length (t .runs)
+runs-of : (a : LogRead) (t : Trace) → a .state ≡ recordOf t → a .state .runs .count ≡ length (t .runs)
 unfolding recordOf
 runs-of a t e = ap (λ (r : Record). r .runs .count) e
 
 -- ── what can be printed ──
-module _ (a : LogChecked) (o : OfTrace a) where
+module _ (a : LogRead) (o : OfTrace a) where
   pub lines-few : a .state .lines .0 ≤ 256
   lines-few = omega (arith, lines-of a (o .trace) (o .state), o .bounded .lines)
 
@@ -46,7 +46,7 @@ module _ (a : LogChecked) (o : OfTrace a) where
   tally-low n y k h = subst Printable (sym (k .meaning (o .trace) (o .state))) (trace-low n h)
 
 -- ── what is printed ──
-module _ (a : LogChecked) (o : OfTrace a) (v text text₁ text₂ : List ℕ) (q r : ℕ) (w : Writes (linesTo v (a .state .lines .0)) text 0 text₁ q) (h : q ≤ 1536) (e : WritesFew 9 (endingText (a .ending)) text₁ q text₂ r) (b : Bool) (u : b ≡ unread? (a .ending)) where
+module _ (a : LogRead) (o : OfTrace a) (v text text₁ text₂ : List ℕ) (q r : ℕ) (w : Writes (linesTo v (a .state .lines .0)) text 0 text₁ q) (h : q ≤ 1536) (e : WritesFew 9 (endingText (a .ending)) text₁ q text₂ r) (b : Bool) (u : b ≡ unread? (a .ending)) where
   pub printed-unread : b ≡ true → PrintsRecord a v text text₂ r
   unfolding recordText
   printed-unread p t s =

@@ -16,7 +16,7 @@ use Rattle.rules.specs.declared.RuleRead.{RuleRead}
 use Rattle.rules.specs.declared.RuleRead.the-variants as RuleRead
 use Rattle.rules.specs.Rules.{ruleOf}
 use Rattle.rules.proofs.Rules.{reads-rule}
-use Rattle.monitor.specs.declared.LogChecked.{LogChecked}
+use Rattle.reading.specs.declared.LogRead.{LogRead}
 use Rattle.monitor.specs.Log.{notRead, linesFrom, logOf, ChecksLog}
 use Rattle.monitor.specs.Repeated.{Result as Checked}
 use Rattle.monitor.proofs.LineCall.{with-refused, with-taken}
@@ -74,7 +74,7 @@ module _ (file log w out : List ℕ) (long : 16384 ≤ length w) (room : 256 ≤
       by-rule (RuleRead.Rule x) e = subst (Given file log) (sym (log-ruled x e)) (given-ruled x e)
       by-rule (RuleRead.Refused n) e = subst (Given file log) (sym (log-unruled n e)) (given-unruled n e)
 
-  module _ (a : LogChecked) (v o : List ℕ) (k : ChecksLog file log w out a v o) where
+  module _ (a : LogRead) (v o : List ℕ) (k : ChecksLog file log w out a v o) where
     given-here : Given file log (a, v, o)
     given-here = subst (Given file log) (sym (k .answer)) given
 

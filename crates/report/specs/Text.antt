@@ -14,7 +14,7 @@ use Rattle.logic.specs.declared.Verdict.the-variants.{Holds, Fails}
 use Rattle.logic.specs.Verdict.{verdictOf}
 use Rattle.monitor.specs.declared.Tally.{Tally}
 use Rattle.monitor.specs.Line.{withRule}
-use Rattle.monitor.specs.Log.{byAnswer}
+use Rattle.reading.specs.Reading.{byAnswer}
 use Rattle.monitor.specs.Tally.{tallyOf, failed}
 
 -- A number of at most three digits, without leading zeros: right for 0 to 999. Every number that is printed is at most 257, the

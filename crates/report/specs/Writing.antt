@@ -7,9 +7,9 @@ use lib.Dec.{eqb}
 use lib.ListN.{length, getD, take, drop}
 use Rattle.trace.specs.Trace.{Trace}
 use Rattle.trace.specs.Record.{recordOf, Bounded}
-use Rattle.monitor.specs.declared.Ending.{Ending}
-use Rattle.monitor.specs.declared.Ending.the-variants.{Read, Refused}
-use Rattle.monitor.specs.declared.LogChecked.{LogChecked}
+use Rattle.reading.specs.declared.Ending.{Ending}
+use Rattle.reading.specs.declared.Ending.the-variants.{Read, Refused}
+use Rattle.reading.specs.declared.LogRead.{LogRead}
 use Rattle.monitor.specs.declared.Tally.{Tally}
 use Rattle.monitor.specs.Tally.{tallyOf}
 use Rattle.report.specs.Text.{letterLine, refusedText, tallyText}
@@ -74,12 +74,12 @@ LineLow Read = Unit {0}
 LineLow (Refused c n) = n ≤ 257
 
 -- what a whole-log call answers is the record of some trace
-pub record OfTrace (a : LogChecked) : Type 0 where
+pub record OfTrace (a : LogRead) : Type 0 where
   pub trace : Trace
   pub bounded : Bounded trace
   pub state : a .state ≡ recordOf trace
   pub line : LineLow (a .ending)
 
 -- the text of the record, from the front of the buffer on: at most 256 lines of 6 bytes, one of 9 and one of 22
-abbrev pub PrintsRecord : LogChecked → List ℕ → List ℕ → List ℕ → ℕ → Type 0
+abbrev pub PrintsRecord : LogRead → List ℕ → List ℕ → List ℕ → ℕ → Type 0
 PrintsRecord a v text text′ n = (t : Trace) → a .state ≡ recordOf t → WritesFew 1567 (recordText t (a .ending) v) text 0 text′ n

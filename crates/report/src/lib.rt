@@ -6,7 +6,7 @@ ghost use Prim.Native.Nat.{_≤_};
 ghost use lib.ListN.{length};
 ghost use Rattle.report.specs.Writing.{byteFails, linesTo, failsTo, OfTrace, Writes, PrintsRecord};
 ghost use Rattle.report.specs.Report.{Reports};
-use monitor::LogChecked;
+use monitor::LogRead;
 
 mod text;
 
@@ -61,7 +61,7 @@ fn count_failing(verdicts: &[u8], n: usize) -> u32
 }
 
 // The text of what a whole-log call answers, from the front of the buffer on: its length.
-fn put_record(text: &mut [u8], verdicts: &[u8], c: LogChecked) -> usize
+fn put_record(text: &mut [u8], verdicts: &[u8], c: LogRead) -> usize
     requires { ⌜ OfTrace c ⌝ }
     requires { ⌜ (256 ≤ length (now verdicts)) × (2048 ≤ length (now text)) ⌝ }
     ensures { λ n. ⌜ PrintsRecord c (now (verdicts .entry)) (now (text .entry)) (now (text .exit)) n ⌝ }

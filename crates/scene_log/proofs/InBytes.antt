@@ -25,7 +25,7 @@ use Rattle.logic.specs.declared.Verdict.the-variants as Verdict
 use Rattle.monitor.specs.declared.Outcome.{Outcome}
 use Rattle.monitor.specs.declared.Outcome.the-variants.{Holds, Fails, Refused}
 use Rattle.monitor.specs.declared.Checked.{Checked}
-use Rattle.monitor.specs.Handed.{Left}
+use Rattle.reading.specs.Left.{Left}
 use Rattle.monitor.specs.Line.{judged, ChecksLine}
 use Rattle.monitor.proofs.Repeated.{left-by}
 use Rattle.record_bytes.specs.declared.Outcome.{Outcome as Packed}

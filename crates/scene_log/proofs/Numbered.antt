@@ -20,11 +20,12 @@ use Rattle.relations.specs.Runs.{Conversed}
 use Rattle.relations.specs.Compose.{composedOf, Composition}
 use Rattle.relations.proofs.Sets.{not-conversed}
 use Rattle.relations.proofs.Demand.{demand-3, first-no-set, second-no-set}
-use Rattle.monitor.specs.declared.Ending.the-variants.{Read, Refused}
-use Rattle.monitor.specs.declared.LogChecked.{LogChecked}
+use Rattle.reading.specs.declared.Ending.the-variants.{Read, Refused}
+use Rattle.reading.specs.declared.LogRead.{LogRead}
 use Rattle.monitor.specs.declared.Tally.{Tally}
 use Rattle.monitor.specs.Line.{withRule}
-use Rattle.monitor.specs.Log.{byAnswer, logOf, ChecksLog}
+use Rattle.reading.specs.Reading.{byAnswer}
+use Rattle.monitor.specs.Log.{logOf, ChecksLog}
 use Rattle.monitor.specs.Tally.{tallyOf, failed}
 use Rattle.report.specs.declared.Reported.{Reported}
 use Rattle.report.specs.declared.Reported.the-variants as Reported
@@ -55,18 +56,18 @@ above a h =
     record { answer = ap setNumber (c .answer); meaning = subst (Conversed a) (c .answer) c }
 
 -- ── a whole log ──
-pub read-whole : (a : LogChecked) → a .ending ≡ Read → a .state .lines .0 ≡ logNumber a
+pub read-whole : (a : LogRead) → a .ending ≡ Read → a .state .lines .0 ≡ logNumber a
 read-whole a e = let k : endingNumber (a .ending) ≡ 0 = ap endingNumber e in omega arith
 
-pub refused-at : (a : LogChecked) (n l : ℕ) → a .ending ≡ Refused n l → n * 65536 + a .state .lines .0 ≡ logNumber a
+pub refused-at : (a : LogRead) (n l : ℕ) → a .ending ≡ Refused n l → n * 65536 + a .state .lines .0 ≡ logNumber a
 refused-at a n l e = let k : endingNumber (a .ending) ≡ n = ap endingNumber e in omega arith
 
-pub checks : (file log w out : List ℕ) (a : LogChecked) (n : ℕ) (w′ out′ : List ℕ)
+pub checks : (file log w out : List ℕ) (a : LogRead) (n : ℕ) (w′ out′ : List ℕ)
     → ChecksLog file log w out a w′ out′ → n ≡ logNumber a → ChecksLogNumber file log w out n w′ out′
 checks file log w out a n w′ out′ c e =
     record {
       answer = ap (λ (k : ℕ). (k, w′, out′)) e ∙ ap logNumbered (c .answer);
-      meaning = subst (λ (z : LogChecked). ChecksLog file log w out z w′ out′) (ap (λ (z : LogChecked × List ℕ × List ℕ). z .0) (c .answer)) c;
+      meaning = subst (λ (z : LogRead). ChecksLog file log w out z w′ out′) (ap (λ (z : LogRead × List ℕ × List ℕ). z .0) (c .answer)) c;
     }
 
 -- ── a report ──

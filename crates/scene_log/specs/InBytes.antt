@@ -18,7 +18,7 @@ use Rattle.logic.specs.declared.Verdict.{Verdict}
 use Rattle.monitor.specs.declared.Outcome.{Outcome}
 use Rattle.monitor.specs.declared.Outcome.the-variants.{Holds, Fails, Refused}
 use Rattle.monitor.specs.declared.Checked.{Checked}
-use Rattle.monitor.specs.Handed.{Left}
+use Rattle.reading.specs.Left.{Left}
 use Rattle.monitor.specs.Line.{judged, ChecksLine}
 use Rattle.record_bytes.specs.Form.{recordSize, recordBytes, recordFrom}
 use Rattle.scene_log.specs.Numbers.{outcomeNumber, relationNumber}

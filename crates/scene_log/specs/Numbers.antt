@@ -11,9 +11,9 @@ use Rattle.relations.specs.declared.Related.the-variants as Related
 use Rattle.relations.specs.Sets.{conversedOf}
 use Rattle.relations.specs.Runs.{Conversed}
 use Rattle.relations.specs.Compose.{composedOf, Demand3}
-use Rattle.monitor.specs.declared.Ending.{Ending}
-use Rattle.monitor.specs.declared.Ending.the-variants.{Read, Refused}
-use Rattle.monitor.specs.declared.LogChecked.{LogChecked}
+use Rattle.reading.specs.declared.Ending.{Ending}
+use Rattle.reading.specs.declared.Ending.the-variants.{Read, Refused}
+use Rattle.reading.specs.declared.LogRead.{LogRead}
 use Rattle.monitor.specs.declared.Outcome.{Outcome}
 use Rattle.monitor.specs.declared.Outcome.the-variants as Outcome
 use Rattle.monitor.specs.Log.{logOf, ChecksLog}
@@ -57,10 +57,10 @@ endingNumber Read = 0
 endingNumber (Refused n l) = n
 
 -- how many lines are taken, and 65,536 times the refusal
-abbrev pub logNumber : LogChecked → ℕ
+abbrev pub logNumber : LogRead → ℕ
 logNumber a = endingNumber (a .ending) * 65536 + a .state .lines .0
 
-abbrev pub logNumbered : LogChecked × List ℕ × List ℕ → ℕ × List ℕ × List ℕ
+abbrev pub logNumbered : LogRead × List ℕ × List ℕ → ℕ × List ℕ × List ℕ
 logNumbered z = (logNumber (z .0), z .1, z .2)
 
 -- the answer and both buffers, for every input; and what they mean

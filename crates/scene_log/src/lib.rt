@@ -11,7 +11,7 @@ ghost use Rattle.scene_log.specs.Numbers.{setNumber, relationNumber, log
 ghost use Rattle.scene_log.specs.InBytes.{lineNumbered, runByte, StartsNumber, ChecksLineNumber, RelatesNumber};
 use monitor::Checked;
 use monitor::Ending;
-use monitor::LogChecked;
+use monitor::LogRead;
 use monitor::Outcome;
 use pairs::Start;
 use relations::Composed;
@@ -85,7 +85,7 @@ fn keep_record(c: Checked, carried: &mut [u8]) -> u32
 }
 
 // The number of lines that are taken, and 65,536 times the refusal.
-fn log_number(c: LogChecked) -> u32
+fn log_number(c: LogRead) -> u32
     ensures { λ n. ⌜ n ≡ logNumber c ⌝ }
 {
     let state = c.state;

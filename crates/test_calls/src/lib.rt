@@ -6,7 +6,7 @@
 // `left_by` hands out the record that a log leaves, and writes nothing.
 use lines::Next;
 use monitor::Ending;
-use monitor::LogChecked;
+use monitor::LogRead;
 use monitor::Outcome;
 use trace::Record;
 
@@ -114,7 +114,7 @@ fn write_byte(verdicts: &[u8], at: usize) {
 }
 
 // Writes the answer to a whole log, with the first eight verdict bytes and the sum of all.
-pub fn write_log(a: LogChecked, work: &[u8], verdicts: &[u8]) {
+pub fn write_log(a: LogRead, work: &[u8], verdicts: &[u8]) {
     let e = a.ending;
     write_ending(e);
     let r = a.state;

@@ -41,7 +41,7 @@ lines-counted ls u e =
     omega arith
 
 module _ (log : List ℕ) (u : Trace) (a : Accepted log u) where
-  lines-of : u .lines ≡ length (linesOf log)
+  pub lines-of : u .lines ≡ length (linesOf log)
   unfolding read
   lines-of = lines-counted (linesOf log) u (a .leaves)
 

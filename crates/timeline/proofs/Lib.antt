@@ -4,3 +4,4 @@ pub mod Bridge
 pub mod Root
 pub mod AllLines
 pub mod Answer
+pub mod LastLine

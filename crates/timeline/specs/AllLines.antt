@@ -36,3 +36,7 @@ pub record JudgesAll (file : List ℕ) (x : Rule) (r : Record) (y : Timeline) : 
   pub fits : FitsRuns y
   pub says : (log : List ℕ) (u : Trace) → Accepted log u → r ≡ recordOf u → (k : ℕ) (t : Trace) → k ≤ u .lines
       → steps (next noTrace) (take k (linesOf log)) ≡ next t → Says t (formulaOf file x) (verdictAt y k)
+
+-- what judging the last line answers: the verdict of the whole log
+abbrev pub JudgesLast : List ℕ → Rule → Record → Verdict → Type 0
+JudgesLast file x r w = (log : List ℕ) (u : Trace) → Accepted log u → r ≡ recordOf u → Says u (formulaOf file x) w

@@ -14,7 +14,7 @@ ghost use Rattle.moments.specs.Rows.{RowsOf};
 ghost use Rattle.rows.specs.Values.{Wanted};
 ghost use Rattle.rows.specs.ByRank.{OrderFits};
 ghost use Rattle.timeline.specs.Root.{noRuns, Shaped, TrueAmong, TrueOfRanks};
-ghost use Rattle.timeline.specs.AllLines.{truthAfter, verdictAt, JudgesAll};
+ghost use Rattle.timeline.specs.AllLines.{truthAfter, verdictAt, JudgesAll, JudgesLast};
 use logic::Verdict;
 use moments::Bindings;
 use moments::Rank;
@@ -136,4 +136,15 @@ pub fn verdict_at(x: Timeline, line: usize) -> Verdict
         return Verdict::Holds;
     }
     Verdict::Fails
+}
+
+// Judges the last line of the log that left a record.
+pub fn judge_last(file: &[u8], rule: Rule, r: Record) -> Verdict
+    requires { ⌜ Taken (now file) rule ⌝ }
+    requires { ⌜ Valid r ⌝ }
+    ensures { λ w. ⌜ JudgesLast (now (file .entry)) rule r w ⌝ }
+{
+    let x = judge_all(file, rule, r);
+    let last = r.lines.0 as usize;
+    verdict_at(x, last)
 }

@@ -1,4 +1,4 @@
-use Rattle.monitor.proofs.Turns.{advanced-few}
+use Rattle.monitor.proofs.Advanced.{advanced-few}
 use Rattle.monitor.proofs.TallyCall.{standing-runs, failing-few, advances-uncounted, advances-counted}
 use borrow.Author.Needs.{needs}
 use Rattle.monitor.proofs.counts.advance_tallied.Statement.{statement}

@@ -1,149 +1,164 @@
-//! Times of the proved check and of the reference on the same rules and logs, side by side.
+//! Times of the proved check, of a plain evaluator and of the published algorithm on the same rules and logs, side by side.
 //!
-//! `cargo run --release -p bench` prints, for each rule, the time of a whole log and of a line for both, and how many times as
-//! long as the proved library the reference takes. Times differ between machines; the ratios much less.
+//! `cargo run --release -p bench` prints a table for each group of rules, the noise, and whether the times are as required.
+//! `--quick` stops at 32 runs; `--group NAME` measures one group: reading, figure1, section3 or worst. Times differ between
+//! machines; the ratios much less. `docs/PERFORMANCE.md` says what each column is.
 
-use reference::calls::check_log;
-use reference::listing::rule_file;
-use std::fmt::Write;
-use std::fs;
-use std::path::Path;
-use std::time::{Duration, Instant};
+#[cfg(test)]
+mod agree;
+mod checks;
+mod logs;
+mod measure;
+mod plain;
+mod published;
+mod rules;
+mod table;
+mod trace;
 
-/// Each measurement is repeated for at least this long, and the shortest time counts.
-const AT_LEAST: Duration = Duration::from_millis(300);
+use logs::{begins_first, interleaved, kept, section_6_of_figure_1, section_6_of_section_3, Log, MAX_RUNS};
+use measure::{Noise, Series, Time};
+use reference::rule::read_rule;
+use rules::{figure_1, section_3, two_nodes, worst, Case};
+use std::process::ExitCode;
+use table::{print_heading, print_noise, print_row, Row};
 
-/// A row of the table: a rule and a log that keeps it at every line, so that nothing is found early.
-struct Row {
-    name: String,
-    rule: Vec<u8>,
-    log: Vec<u8>,
-    runs: usize,
+/// Labels for the logs of the rules that name none; property 3 of section 3 names label 2.
+const LABELS: [&str; 4] = ["1", "2", "3", ""];
+
+/// A rule and the logs of one kind, by how many runs they have.
+struct Measured {
+    rule: Case,
+    log: Box<dyn Fn(usize) -> Log>,
 }
 
-/// A small seeded random source (SplitMix64).
-struct Random(u64);
-
-impl Random {
-    fn below(&mut self, bound: usize) -> usize {
-        self.0 = self.0.wrapping_add(0x9E37_79B9_7F4A_7C15);
-        let mixed = (self.0 ^ (self.0 >> 30)).wrapping_mul(0xBF58_476D_1CE4_E5B9);
-        let mixed = (mixed ^ (mixed >> 27)).wrapping_mul(0x94D0_49BB_1331_11EB);
-        ((mixed ^ (mixed >> 31)) % bound as u64) as usize
-    }
+fn measured(rule: Case, log: impl Fn(usize) -> Log + 'static) -> Measured {
+    Measured { rule, log: Box::new(log) }
 }
 
-/// A log of finished runs in phases. The runs of a phase, with its labels in turn, lie in any order to each other; every
-/// run of a phase is before every run of the next.
-fn log_of(phases: &[(usize, &[&str])]) -> Vec<u8> {
-    let random = &mut Random(1);
-    let mut log = String::new();
-    let mut id = 0;
-    for (runs, labels) in phases {
-        let mut open: Vec<usize> = Vec::new();
-        let mut begun = 0;
-        while begun < *runs || !open.is_empty() {
-            if begun < *runs && (open.is_empty() || random.below(2) == 0) {
-                id += 1;
-                writeln!(log, "B {id} {}", labels[begun % labels.len()]).unwrap();
-                begun += 1;
-                open.push(id);
-            } else {
-                let at = random.below(open.len());
-                writeln!(log, "E {}", open.remove(at)).unwrap();
-            }
+/// The same rule on interleaved logs and on logs whose begins come first.
+fn both_kinds(rule: fn() -> Case) -> [Measured; 2] {
+    [measured(rule(), |runs| interleaved(runs, &LABELS)), measured(rule(), |runs| begins_first(runs, &LABELS))]
+}
+
+/// The names of the groups, as `--group` takes them, and their headings.
+const GROUPS: [(&str, &str); 4] = [
+    ("reading", "Reading"),
+    ("figure1", "The properties of figure 1"),
+    ("section3", "The properties of section 3"),
+    ("worst", "The worst rules"),
+];
+
+fn group(name: &str) -> Vec<Measured> {
+    match name {
+        "reading" => both_kinds(two_nodes).into(),
+        "figure1" => (1..=4)
+            .flat_map(|property| {
+                let section_6 = measured(figure_1(property), move |runs| section_6_of_figure_1(property, runs));
+                [section_6, measured(figure_1(property), move |runs| kept(property, runs))]
+            })
+            .collect(),
+        "section3" => (1..=4)
+            .flat_map(|property| {
+                let section_6 = measured(section_3(property), move |runs| section_6_of_section_3(property, runs));
+                let mixed = measured(section_3(property), |runs| interleaved(runs, &LABELS));
+                [section_6, mixed, measured(section_3(property), |runs| begins_first(runs, &LABELS))]
+            })
+            .collect(),
+        _ => {
+            let mixed = worst().into_iter().map(|rule| measured(rule, |runs| interleaved(runs, &LABELS)));
+            mixed.chain(worst().into_iter().map(|rule| measured(rule, |runs| begins_first(runs, &LABELS)))).collect()
         }
     }
-    log.into_bytes()
 }
 
-/// The four properties of figure 1, each with a full log that keeps it.
-fn properties() -> Vec<Row> {
-    let phases: [[&[&str]; 2]; 4] = [
-        [&["DL_IMAGE", "OTHER"], &["BOOT", "OTHER"]],
-        [&["DL_FAIL", "OTHER"], &["DL_MOBPRM", "DL_ARMPRM"]],
-        [&["INS_ON", "INS_RECOVER"], &["INS_FAIL", "OTHER"]],
-        [&["STARVE", "OTHER"], &["DL_IMAGE", "GET_CAMDATA"]],
-    ];
-    let examples = Path::new(env!("CARGO_MANIFEST_DIR")).join("../../examples");
-    let row = |(index, [first, second]): (usize, &[&[&str]; 2])| Row {
-        name: format!("figure 1, property {}", index + 1),
-        rule: fs::read(examples.join(format!("rover_{}_kept/rule.rul", index + 1))).expect("a rule of the examples"),
-        log: log_of(&[(64, first), (64, second)]),
-        runs: 128,
-    };
-    phases.iter().enumerate().map(row).collect()
-}
-
-/// No runs lie in a circle, each before the next: `nested` "some" nodes, one inside another.
-fn circle(nested: usize, runs: usize) -> Row {
-    let mut listing = String::new();
-    for variable in 0..nested {
-        writeln!(listing, "before {variable} {}", (variable + 1) % nested).unwrap();
-    }
-    let mut last = 0;
-    for atom in 1..nested {
-        writeln!(listing, "and {last} {atom}").unwrap();
-        last = nested + atom - 1;
-    }
-    for variable in (0..nested).rev() {
-        writeln!(listing, "some {variable} {last}").unwrap();
-        last = if last == 0 { nested } else { last + 1 };
-    }
-    writeln!(listing, "not {last}").unwrap();
-    let rule = rule_file(&listing).expect("a legal rule");
-    Row { name: format!("{nested} nested \"some\""), rule, log: log_of(&[(runs, &["A", "B", "C"])]), runs }
-}
-
-/// The shortest time of this call.
-fn time_of(mut call: impl FnMut()) -> Duration {
-    let begin = Instant::now();
-    let mut shortest = Duration::MAX;
-    while shortest == Duration::MAX || begin.elapsed() < AT_LEAST {
-        let one = Instant::now();
-        call();
-        shortest = shortest.min(one.elapsed());
-    }
-    shortest
-}
-
-/// One line of the table. Both must take every line and answer "holds" at each.
-fn print_row(row: &Row) {
-    let lines = 2 * row.runs;
-    let (mut work, mut verdicts) = (vec![0; proved::WORK_BYTES], vec![0; proved::VERDICT_BYTES]);
-    let proved_time = time_of(|| {
-        verdicts.fill(0);
-        let answer = proved::check_log(&row.rule, &row.log, &mut work, &mut verdicts);
-        assert_eq!((usize::from(answer.lines), answer.refusal), (lines, None));
-        assert!(verdicts[..lines].iter().all(|verdict| *verdict == 1));
-    });
-    let reference_time = time_of(|| {
-        verdicts.fill(0);
-        let answer = check_log(&row.rule, &row.log, &mut work, &mut verdicts);
-        assert_eq!((answer.record.lines as usize, answer.refusal), (lines, None));
-        assert!(verdicts[..lines].iter().all(|verdict| *verdict == 1));
-    });
-    let millis = |time: Duration| time.as_secs_f64() * 1e3;
-    let micros_a_line = |time: Duration| time.as_secs_f64() * 1e6 / lines as f64;
-    println!(
-        "| {} | {} | {:.2} | {:.1} | {:.2} | {:.1} | {:.1} |",
-        row.name,
-        row.runs,
-        millis(proved_time),
-        micros_a_line(proved_time),
-        millis(reference_time),
-        micros_a_line(reference_time),
-        reference_time.as_secs_f64() / proved_time.as_secs_f64(),
-    );
-}
-
-fn main() {
-    println!("| Rule | Runs | Proved: log, ms | a line, µs | Reference: log, ms | a line, µs | Reference / proved |");
-    println!("|---|---|---|---|---|---|---|");
-    for row in properties() {
+/// The rows of one rule on logs of one kind, from short to long.
+fn rows_of(Measured { rule, log }: &Measured, sizes: &[usize]) -> Vec<Row> {
+    let two_nodes = two_nodes().file;
+    let nodes = read_rule(&rule.file).expect("a legal rule");
+    let [mut whole, mut plain, mut published] = [(); 3].map(|()| Series::new(rule.nested));
+    let mut rows: Vec<Row> = Vec::new();
+    for runs in sizes {
+        let log = log(*runs);
+        // Where the proved check is not run, there are no verdicts to hold the baselines against.
+        let mut verdicts = None;
+        let whole = whole.next(*runs, || {
+            let (time, found) = measure::whole_log(&rule.file, &log);
+            verdicts = Some(found);
+            time
+        });
+        let growth = rows.last().and_then(|last| growth(last, *runs, whole));
+        let row = Row {
+            rule: rule.name.clone(),
+            log: log.kind,
+            runs: *runs,
+            whole,
+            single: whole.is_taken.then(|| measure::single_line(&rule.file, &two_nodes, &log)),
+            reading: measure::whole_log(&two_nodes, &log).0,
+            plain: plain.next(*runs, || measure::baseline(plain::verdicts, &nodes, &log, verdicts.as_deref())),
+            published: published.next(*runs, || measure::baseline(published::verdicts, &nodes, &log, verdicts.as_deref())),
+            growth,
+        };
         print_row(&row);
+        rows.push(row);
     }
-    for (nested, runs) in [(1, 128), (2, 128), (3, 128), (4, 32)] {
-        print_row(&circle(nested, runs));
+    rows
+}
+
+/// How many times as long a full log takes as one of half its runs.
+fn growth(half: &Row, runs: usize, whole: Time) -> Option<f64> {
+    let both_taken = half.whole.is_taken && whole.is_taken;
+    (both_taken && runs == MAX_RUNS && half.runs == MAX_RUNS / 2).then(|| whole.seconds / half.whole.seconds)
+}
+
+/// What the command line asks for.
+struct Options {
+    sizes: &'static [usize],
+    groups: Vec<(&'static str, &'static str)>,
+}
+
+fn options() -> Result<Options, String> {
+    let mut options = Options { sizes: &[16, 32, 64, 128], groups: GROUPS.to_vec() };
+    let mut words = std::env::args().skip(1);
+    while let Some(word) = words.next() {
+        match word.as_str() {
+            "--quick" => options.sizes = &[16, 32],
+            "--group" => {
+                let name = words.next().unwrap_or_default();
+                options.groups.retain(|(known, _)| *known == name);
+            }
+            _ => return Err(format!("{word} is not an option")),
+        }
     }
+    if options.groups.is_empty() {
+        return Err("the groups are reading, figure1, section3 and worst".into());
+    }
+    Ok(options)
+}
+
+fn main() -> ExitCode {
+    let Options { sizes, groups } = match options() {
+        Ok(options) => options,
+        Err(message) => {
+            eprintln!("bench: {message}; usage: bench [--quick] [--group NAME]");
+            return ExitCode::from(2);
+        }
+    };
+    let (rule, log) = (two_nodes().file, interleaved(MAX_RUNS, &LABELS));
+    let mut noise = Noise::default();
+    noise.measure("beginning", &rule, &log);
+    let groups: Vec<_> = groups.iter().map(|(name, title)| (title, group(name))).collect();
+    let count: usize = groups.iter().map(|(_, group)| group.len()).sum();
+    let mut rows = Vec::new();
+    for (title, group) in &groups {
+        print_heading(title);
+        for measured in group {
+            if rows.len() == count / 2 * sizes.len() {
+                noise.measure("middle", &rule, &log);
+            }
+            rows.extend(rows_of(measured, sizes));
+        }
+    }
+    noise.measure("end", &rule, &log);
+    print_noise(&noise);
+    if checks::print_checks(&rows) { ExitCode::SUCCESS } else { ExitCode::FAILURE }
 }

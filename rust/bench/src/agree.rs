@@ -1,0 +1,158 @@
+//! The two baselines answer what the proved check answers, and rules and logs are what they are said to be.
+
+use crate::logs::{begins_first, interleaved, kept, section_6_of_figure_1, section_6_of_section_3, Log};
+use crate::rules::{figure_1, section_3, two_nodes, worst, Case};
+use crate::trace::{Line, Trace};
+use crate::{plain, published, LABELS};
+use generate::case;
+use generate::random::Random;
+use generate::rules::legal_rule;
+use proved::{check_log, VERDICT_BYTES, WORK_BYTES};
+use reference::listing::rule_file;
+use reference::rule::read_rule;
+
+/// The verdicts of the accepted lines by the proved check; the rule is legal.
+fn proved_verdicts(rule: &[u8], log: &[u8]) -> Vec<bool> {
+    let (mut work, mut verdicts) = (vec![0; WORK_BYTES], vec![0; VERDICT_BYTES]);
+    let answer = check_log(rule, log, &mut work, &mut verdicts);
+    verdicts[..usize::from(answer.lines)].iter().map(|verdict| *verdict == 1).collect()
+}
+
+/// All three on a rule and the accepted lines of a log; answers the verdicts.
+fn agreed_verdicts(rule: &[u8], log: &[u8], message: &str) -> Vec<bool> {
+    let expected = proved_verdicts(rule, log);
+    let accepted: usize = log.split_inclusive(|byte| *byte == b'\n').take(expected.len()).map(<[u8]>::len).sum();
+    let (rule, trace) = (read_rule(rule).expect("a legal rule"), Trace::read(&log[..accepted]));
+    assert_eq!(plain::verdicts(&rule, &trace), expected, "plain, {message}");
+    assert_eq!(published::verdicts(&rule, &trace), expected, "published, {message}");
+    expected
+}
+
+#[test]
+fn the_three_agree_on_generated_cases() {
+    let (mut holds, mut fails) = (0, 0);
+    for seed in 0..600 {
+        let case = case(seed);
+        if read_rule(&case.rule).is_ok() {
+            let verdicts = agreed_verdicts(&case.rule, &case.log, &format!("seed {seed}"));
+            holds += verdicts.iter().filter(|verdict| **verdict).count();
+            fails += verdicts.iter().filter(|verdict| !**verdict).count();
+        }
+    }
+    assert!(holds >= 1000 && fails >= 1000, "{holds} lines hold, {fails} fail");
+}
+
+/// Rules with up to four nested "some" on small logs of both kinds.
+#[test]
+fn the_three_agree_on_small_logs_with_deep_rules() {
+    let labels: Vec<Vec<u8>> = ["1", "2", "NEVER"].map(|label| label.as_bytes().to_vec()).into();
+    let mut changes = 0;
+    for seed in 0..1500 {
+        let random = &mut Random::new(seed);
+        let rule = legal_rule(random, labels.clone(), 4).to_bytes();
+        let runs = random.between(1, 6);
+        for log in [interleaved(runs, &LABELS), begins_first(runs, &LABELS)] {
+            let verdicts = agreed_verdicts(&rule, &log.bytes, &format!("seed {seed}, {}", log.kind));
+            changes += verdicts.windows(2).filter(|two| two[0] != two[1]).count();
+        }
+    }
+    assert!(changes >= 500, "{changes} changes of a verdict");
+}
+
+/// Rows of one word and, from 65 finished runs on, of two.
+#[test]
+fn the_three_agree_on_long_logs() {
+    let log = interleaved(68, &LABELS);
+    for rule in [two_nodes(), section_3(1), section_3(2), section_3(3), section_3(4), figure_1(2)] {
+        agreed_verdicts(&rule.file, &log.bytes, &rule.name);
+    }
+    for property in 1..=4 {
+        agreed_verdicts(&figure_1(property).file, &kept(property, 68).bytes, &format!("property {property}"));
+    }
+}
+
+/// Four variables and rows of two words, without four nested loops for the others: "some A, B, C, D, p and q" is "some p and
+/// some q" where p and q share no variable. The log ends in a DL_MOBPRM that includes a DL_FAIL, the only one.
+#[test]
+fn a_rule_over_four_variables_is_its_two_halves() {
+    let log = section_6_of_figure_1(2, 68);
+    let trace = Trace::read(&log.bytes);
+    for [x, y, u, v] in [[0, 3, 1, 2], [3, 0, 2, 1], [1, 3, 0, 2], [2, 0, 3, 1], [0, 1, 2, 3], [2, 3, 1, 0]] {
+        let halves = format!(
+            "label DL_MOBPRM\nhas {x} 0\nincludes {x} {y}\nsome {y} 1\nand 0 2\nsome {x} 3\n\
+             before {u} {v}\nsome {v} 5\nsome {u} 6\nand 4 7\n"
+        );
+        let whole = format!(
+            "label DL_MOBPRM\nhas {x} 0\nincludes {x} {y}\nand 0 1\nbefore {u} {v}\nand 2 3\nnot 4\nnot 5\n\
+             some 3 6\nsome 2 7\nsome 1 8\nsome 0 9\n"
+        );
+        let expected = agreed_verdicts(&rule_file(&halves).expect("a legal rule"), &log.bytes, "halves");
+        assert_eq!(expected.iter().position(|verdict| *verdict), Some(2 * log.runs - 1));
+        let rule = read_rule(&rule_file(&whole).expect("a legal rule")).expect("a legal rule");
+        assert_eq!(published::verdicts(&rule, &trace), expected, "variables {x}, {y} and {u}, {v}");
+    }
+}
+
+/// The most runs that are open at a time.
+fn most_open(log: &Log) -> usize {
+    let (mut open, mut most) = (0, 0);
+    for line in Trace::read(&log.bytes).lines {
+        match line {
+            Line::Begin { .. } => open += 1,
+            Line::End { .. } => open -= 1,
+        }
+        most = most.max(open);
+    }
+    most
+}
+
+fn break_only_at_the_last_line(rule: fn(usize) -> Case, log: fn(usize, usize) -> Log) {
+    for (property, runs) in (1..=4).flat_map(|property| [16, 33].map(|runs| (property, runs))) {
+        let (rule, log) = (rule(property), log(property, runs));
+        let verdicts = agreed_verdicts(&rule.file, &log.bytes, &format!("{}, {runs} runs", rule.name));
+        assert_eq!((log.runs, verdicts.len()), (runs, 2 * runs));
+        assert_eq!(verdicts.iter().position(|verdict| !verdict), Some(2 * runs - 1), "{}", rule.name);
+        assert!(most_open(&log) <= 3, "{}", rule.name);
+    }
+}
+
+#[test]
+fn section_6_logs_break_the_properties_of_figure_1_at_the_last_line_only() {
+    break_only_at_the_last_line(figure_1, section_6_of_figure_1);
+}
+
+#[test]
+fn section_6_logs_break_the_properties_of_section_3_at_the_last_line_only() {
+    break_only_at_the_last_line(section_3, section_6_of_section_3);
+}
+
+#[test]
+fn kept_logs_keep_the_properties_of_figure_1() {
+    for (property, runs) in (1..=4).flat_map(|property| [16, 40].map(|runs| (property, runs))) {
+        let verdicts = agreed_verdicts(&figure_1(property).file, &kept(property, runs).bytes, "kept");
+        assert!(verdicts.len() == 2 * runs && verdicts.iter().all(|verdict| *verdict), "property {property}");
+    }
+}
+
+#[test]
+fn the_worst_rules_have_as_many_nodes_as_the_limit_lets_and_are_never_true() {
+    for rule in worst() {
+        let nodes = read_rule(&rule.file).expect("a legal rule").nodes.len();
+        assert!((63..=64).contains(&nodes), "{}: {nodes} nodes", rule.name);
+        for log in [interleaved(12, &LABELS), begins_first(12, &LABELS)] {
+            let verdicts = agreed_verdicts(&rule.file, &log.bytes, &rule.name);
+            assert!(verdicts.len() == 24 && !verdicts.contains(&true), "{}", rule.name);
+        }
+    }
+}
+
+#[test]
+fn both_relations_of_a_pair_occur_in_both_kinds_of_logs() {
+    let occurs = |relation: &str, log: &Log| {
+        let rule = rule_file(&format!("{relation} 0 1\nsome 1 0\nsome 0 1\n")).expect("a legal rule");
+        agreed_verdicts(&rule, &log.bytes, relation).contains(&true)
+    };
+    for log in [interleaved(16, &LABELS), begins_first(16, &LABELS)] {
+        assert!(occurs("overlaps", &log) && occurs("includes", &log), "{}", log.kind);
+    }
+}

@@ -1,0 +1,193 @@
+//! The logs that are measured.
+//!
+//! Kinds of logs:
+//! - "interleaved": begins and ends mixed at random.
+//! - "begins first": all begin lines, then all end lines in a random order.
+//! - "section 6": as 000, section 6, makes its traces. Followed from there: the rule breaks at the last line and not before
+//!   ("creating the traces to be violated only at the last event"); at most three runs are open at a time ("the maximal number
+//!   of overlapping intervals [..] limit of 3"); the labels are none of the rule's, but for the runs that break it ("we set the
+//!   data to be different from the ones that appears in the property, except for the violating events"). Not followed: the
+//!   length, 1,000 to 16,000 lines there, at most 256 here.
+//! - "kept": two phases, mixed at random inside a phase. Every run has a label of the rule or OTHER, and the rule holds at
+//!   every line, so that no evaluator finds anything early.
+//!
+//! The random source is seeded, so a log is the same in every run.
+
+use generate::random::Random;
+use std::fmt::Write;
+
+/// The most runs of a log.
+pub const MAX_RUNS: usize = 128;
+
+/// A log: what it is called in the table, how many runs it has, its bytes.
+#[derive(Clone)]
+pub struct Log {
+    pub kind: &'static str,
+    pub runs: usize,
+    pub bytes: Vec<u8>,
+}
+
+/// A log that is being written: its text so far, the runs begun, and the ids of the open ones.
+struct Writer {
+    random: Random,
+    text: String,
+    begun: usize,
+    open: Vec<usize>,
+}
+
+impl Writer {
+    fn new(seed: u64) -> Writer {
+        Writer { random: Random::new(seed), text: String::new(), begun: 0, open: Vec::new() }
+    }
+
+    /// Begins a run with this label, or with none where it is empty. Ids count from 1.
+    fn begin(&mut self, label: &str) {
+        self.begun += 1;
+        self.open.push(self.begun);
+        let space = if label.is_empty() { "" } else { " " };
+        writeln!(self.text, "B {}{space}{label}", self.begun).unwrap();
+    }
+
+    /// Ends the open run at this place among the open ones, in the order of their begins.
+    fn end(&mut self, place: usize) {
+        writeln!(self.text, "E {}", self.open.remove(place)).unwrap();
+    }
+
+    fn end_any(&mut self) {
+        let place = self.random.below(self.open.len());
+        self.end(place);
+    }
+
+    /// Runs with these labels in turn, begins and ends mixed at random, at most `limit` open at a time. All are ended.
+    fn mixed(&mut self, runs: usize, labels: &[&str], limit: usize) {
+        let until = self.begun + runs;
+        while self.begun < until || !self.open.is_empty() {
+            let may_begin = self.begun < until && self.open.len() < limit;
+            if may_begin && (self.open.is_empty() || self.random.chance(1, 2)) {
+                self.begin(labels[self.begun % labels.len()]);
+            } else {
+                self.end_any();
+            }
+        }
+    }
+
+    fn log(self, kind: &'static str) -> Log {
+        Log { kind, runs: self.begun, bytes: self.text.into_bytes() }
+    }
+}
+
+/// Begins and ends mixed at random.
+pub fn interleaved(runs: usize, labels: &[&str]) -> Log {
+    let mut writer = Writer::new(1);
+    writer.mixed(runs, labels, MAX_RUNS);
+    writer.log("interleaved")
+}
+
+/// All begin lines, then all end lines in a random order.
+pub fn begins_first(runs: usize, labels: &[&str]) -> Log {
+    let mut writer = Writer::new(2);
+    for run in 0..runs {
+        writer.begin(labels[run % labels.len()]);
+    }
+    for _ in 0..runs {
+        writer.end_any();
+    }
+    writer.log("begins first")
+}
+
+/// Labels that no rule names.
+const OTHERS: [&str; 4] = ["DRIVE", "HEAT", "IDLE", "SLEEP"];
+
+/// At most this many runs of a section 6 log are open at a time.
+const OPEN_LIMIT: usize = 3;
+
+/// How a log ends: begin lines with a label, and end lines of the open run at a place.
+enum Last {
+    Begin(&'static str),
+    End(usize),
+}
+
+/// The section 6 log of a property of figure 1 (1 to 4): the last lines break it.
+pub fn section_6_of_figure_1(property: usize, runs: usize) -> Log {
+    use Last::{Begin, End};
+    let last: &[Last] = match property {
+        // A DL_IMAGE inside the first of two BOOTs.
+        1 => &[Begin("BOOT"), Begin("DL_IMAGE"), End(1), End(0), Begin("BOOT"), End(0)],
+        // A DL_FAIL inside a DL_MOBPRM.
+        2 => &[Begin("DL_MOBPRM"), Begin("DL_FAIL"), End(1), End(0)],
+        // INS_ON, INS_FAIL and INS_RECOVER one after another.
+        3 => &[Begin("INS_ON"), End(0), Begin("INS_FAIL"), End(0), Begin("INS_RECOVER"), End(0)],
+        // A STARVE inside a GET_CAMDATA and a DL_IMAGE.
+        _ => &[Begin("DL_IMAGE"), Begin("GET_CAMDATA"), Begin("STARVE"), End(2), End(1), End(0)],
+    };
+    let mut writer = Writer::new(3);
+    let ending = last.iter().filter(|line| matches!(line, Begin(_))).count();
+    writer.mixed(runs - ending, &OTHERS, OPEN_LIMIT);
+    break_rule(writer, last)
+}
+
+/// The section 6 log of a property of section 3 (1 to 4). Properties 1, 2 and 4 are broken by runs with any labels, so here
+/// the runs before the last have the labels and the order that keep them.
+pub fn section_6_of_section_3(property: usize, runs: usize) -> Log {
+    use Last::{Begin, End};
+    let mut writer = Writer::new(4);
+    let last: &[Last] = match property {
+        // Runs without a label, and two with the same one.
+        1 => {
+            writer.mixed(runs - 2, &[""], OPEN_LIMIT);
+            &[Begin("DRIVE"), End(0), Begin("DRIVE"), End(0)]
+        }
+        // Runs end in the order in which they began, so none includes another; then three, each in the one before.
+        2 => {
+            ordered(&mut writer, runs - 3, |_| 0);
+            &[Begin("DRIVE"), Begin("HEAT"), Begin("IDLE"), End(2), End(1), End(0)]
+        }
+        // Two adjacent runs with label 2.
+        3 => {
+            writer.mixed(runs - 2, &OTHERS, OPEN_LIMIT);
+            &[Begin("2"), End(0), Begin("2"), End(0)]
+        }
+        // The run begun last ends first, so none overlaps another; then three that overlap in turn.
+        _ => {
+            ordered(&mut writer, runs - 3, |open| open - 1);
+            &[Begin("DRIVE"), Begin("HEAT"), Begin("IDLE"), End(0), End(0), End(0)]
+        }
+    };
+    break_rule(writer, last)
+}
+
+/// Runs of which two at most are open; the open run at the place that `ends` answers ends.
+fn ordered(writer: &mut Writer, runs: usize, ends: impl Fn(usize) -> usize) {
+    while writer.begun < runs || !writer.open.is_empty() {
+        if writer.begun < runs && writer.open.len() < 2 && (writer.open.is_empty() || writer.random.chance(1, 2)) {
+            writer.begin(OTHERS[writer.begun % OTHERS.len()]);
+        } else {
+            let open = writer.open.len();
+            writer.end(ends(open));
+        }
+    }
+}
+
+fn break_rule(mut writer: Writer, last: &[Last]) -> Log {
+    for line in last {
+        match line {
+            Last::Begin(label) => writer.begin(label),
+            Last::End(place) => writer.end(*place),
+        }
+    }
+    writer.log("section 6")
+}
+
+/// The "kept" log of a property of figure 1: every run of the first phase is before every run of the second.
+pub fn kept(property: usize, runs: usize) -> Log {
+    let [first, second] = match property {
+        1 => [["DL_IMAGE", "OTHER"], ["BOOT", "OTHER"]],
+        2 => [["DL_FAIL", "OTHER"], ["DL_MOBPRM", "DL_ARMPRM"]],
+        3 => [["INS_ON", "INS_RECOVER"], ["INS_FAIL", "OTHER"]],
+        _ => [["STARVE", "OTHER"], ["DL_IMAGE", "GET_CAMDATA"]],
+    };
+    let mut writer = Writer::new(5);
+    writer.mixed(runs / 2, &first, MAX_RUNS);
+    writer.mixed(runs - runs / 2, &second, MAX_RUNS);
+    writer.log("kept")
+}

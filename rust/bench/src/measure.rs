@@ -1,0 +1,133 @@
+//! Taking times: the shortest of repeats, times carried on to longer logs, and the noise of the machine.
+
+use crate::logs::Log;
+use crate::trace::Trace;
+use proved::{check_line, check_log, Check, VERDICT_BYTES, WORK_BYTES};
+use reference::rule::Rule;
+use std::time::{Duration, Instant};
+
+/// Each measurement is repeated for at least this long.
+const AT_LEAST: Duration = Duration::from_millis(200);
+
+/// No call is made that is expected to take longer, in seconds.
+const LONGEST: f64 = 20.0;
+
+/// A time in seconds, taken or carried on from shorter logs.
+#[derive(Clone, Copy)]
+pub struct Time {
+    pub seconds: f64,
+    pub is_taken: bool,
+}
+
+/// The times of the repeats of a call, in seconds, from the shortest on. What `prepare` does is not timed.
+fn repeats<S>(state: &mut S, prepare: impl Fn(&mut S), call: impl Fn(&mut S)) -> Vec<f64> {
+    let begin = Instant::now();
+    let mut times = Vec::new();
+    while times.is_empty() || begin.elapsed() < AT_LEAST {
+        prepare(state);
+        let one = Instant::now();
+        call(state);
+        times.push(one.elapsed().as_secs_f64());
+    }
+    times.sort_by(f64::total_cmp);
+    times
+}
+
+/// The shortest time of the whole-log call, and the verdicts.
+pub fn whole_log(rule: &[u8], log: &Log) -> (f64, Vec<bool>) {
+    let mut buffers = (vec![0; WORK_BYTES], vec![0; VERDICT_BYTES]);
+    let times = whole_log_times(rule, log, &mut buffers);
+    (times[0], buffers.1[..2 * log.runs].iter().map(|verdict| *verdict == 1).collect())
+}
+
+fn whole_log_times(rule: &[u8], log: &Log, buffers: &mut (Vec<u8>, Vec<u8>)) -> Vec<f64> {
+    repeats(buffers, |_| {}, |(work, verdicts)| {
+        let answer = check_log(rule, &log.bytes, work, verdicts);
+        assert_eq!((usize::from(answer.lines), answer.refusal), (2 * log.runs, None));
+    })
+}
+
+/// The shortest time of the single-line call: the last line of the log on the record of the lines before it.
+pub fn single_line(rule: &[u8], two_nodes: &[u8], log: &Log) -> f64 {
+    let lines: Vec<&[u8]> = log.bytes.split_inclusive(|byte| *byte == b'\n').collect();
+    let (last, before) = lines.split_last().expect("a log of some lines");
+    let mut check = Check::start();
+    // A record is the same with any rule.
+    for line in before {
+        check.line(two_nodes, line).expect("an accepted line");
+    }
+    let restore = |now: &mut Check| {
+        now.record.copy_from_slice(&*check.record);
+        now.work.copy_from_slice(&*check.work);
+    };
+    let call = |now: &mut Check| {
+        check_line(rule, &mut *now.record, &mut *now.work, last).expect("an accepted line");
+    };
+    repeats(&mut check.clone(), restore, call)[0]
+}
+
+/// One of the two baselines: the verdict of every line.
+pub type Baseline = fn(&Rule, &Trace) -> Vec<bool>;
+
+/// The shortest time of a baseline, the reading of the log included, that of the rule not. Its verdicts must be those of the
+/// proved check, where these are known.
+pub fn baseline(verdicts_of: Baseline, rule: &Rule, log: &Log, expected: Option<&[bool]>) -> f64 {
+    let mut verdicts = Vec::new();
+    let times = repeats(&mut verdicts, |_| {}, |verdicts| *verdicts = verdicts_of(rule, &Trace::read(&log.bytes)));
+    assert!(expected.is_none_or(|expected| verdicts == expected), "a baseline and the proved check differ");
+    times[0]
+}
+
+/// The times of one rule on logs of one kind, from short to long.
+pub struct Series {
+    taken: Vec<(usize, f64)>,
+    /// The highest power of the number of runs with which the time can grow: one for each nested "some", one for the lines.
+    steepest: f64,
+}
+
+impl Series {
+    pub fn new(nested: usize) -> Series {
+        Series { taken: Vec::new(), steepest: nested as f64 + 1.0 }
+    }
+
+    /// Whether a log of so many runs is short enough, even if the time grows as fast as it can.
+    pub fn is_short(&self, runs: usize) -> bool {
+        self.taken.last().is_none_or(|last| carried_on(*last, runs, self.steepest) <= LONGEST)
+    }
+
+    /// The time for so many runs: taken where it is short, else carried on.
+    pub fn next(&mut self, runs: usize, take: impl FnOnce() -> f64) -> Time {
+        if self.is_short(runs) {
+            self.taken.push((runs, take()));
+            return Time { seconds: self.taken[self.taken.len() - 1].1, is_taken: true };
+        }
+        let last = self.taken[self.taken.len() - 1];
+        Time { seconds: carried_on(last, runs, self.growth()), is_taken: false }
+    }
+
+    /// The power with which the time grew between the last two sizes taken.
+    fn growth(&self) -> f64 {
+        match self.taken[..] {
+            [.., (runs, time), (more, longer)] => {
+                ((longer / time).ln() / (more as f64 / runs as f64).ln()).min(self.steepest)
+            }
+            _ => self.steepest,
+        }
+    }
+}
+
+/// The time at so many runs if it grows with this power of their number.
+fn carried_on((runs, time): (usize, f64), more: usize, power: f64) -> f64 {
+    time * (more as f64 / runs as f64).powf(power)
+}
+
+/// The same call, measured now and then: the moment, the shortest time, and the median as a multiple of it.
+#[derive(Default)]
+pub struct Noise(pub Vec<(&'static str, f64, f64)>);
+
+impl Noise {
+    pub fn measure(&mut self, moment: &'static str, rule: &[u8], log: &Log) {
+        let times = whole_log_times(rule, log, &mut (vec![0; WORK_BYTES], vec![0; VERDICT_BYTES]));
+        self.0.push((moment, times[0], times[times.len() / 2] / times[0]));
+    }
+}

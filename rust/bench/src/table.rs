@@ -1,0 +1,118 @@
+//! The rows of the tables and how they are printed.
+
+use crate::measure::{Noise, Time};
+
+/// What was measured of one rule on one log.
+pub struct Row {
+    pub rule: String,
+    pub log: &'static str,
+    pub runs: usize,
+    /// The proved check: the whole log, and its last line alone. None where the whole log would take too long.
+    pub whole: Time,
+    pub single: Option<f64>,
+    /// The whole log with the two-node rule.
+    pub reading: f64,
+    pub plain: Time,
+    pub published: Time,
+    /// The time of the whole log at 128 runs over that at 64.
+    pub growth: Option<f64>,
+}
+
+impl Row {
+    pub fn whole_to_reading(&self) -> f64 {
+        self.whole.seconds / self.reading
+    }
+
+    pub fn single_to_reading(&self) -> Option<f64> {
+        self.single.map(|single| single / self.reading)
+    }
+
+    pub fn plain_to_proved(&self) -> f64 {
+        self.plain.seconds / self.whole.seconds
+    }
+
+    pub fn published_to_proved(&self) -> f64 {
+        self.published.seconds / self.whole.seconds
+    }
+}
+
+pub fn print_heading(title: &str) {
+    println!("\n## {title}\n");
+    println!(
+        "| Rule | Log | Runs | Proved: whole log | single line | reading | whole / reading | single / reading \
+         | Plain | Published | plain / proved | published / proved | 64 to 128 runs |"
+    );
+    println!("|---|---|--:|--:|--:|--:|--:|--:|--:|--:|--:|--:|--:|");
+}
+
+pub fn print_row(row: &Row) {
+    let ratio = |ratio: f64, of: &[Time]| format!("{}{}", mark(of), short(ratio));
+    let maybe = |number: Option<f64>, form: fn(f64) -> String| number.map_or("–".into(), form);
+    let cells = [
+        row.rule.clone(),
+        row.log.into(),
+        row.runs.to_string(),
+        time(row.whole),
+        maybe(row.single, seconds),
+        seconds(row.reading),
+        ratio(row.whole_to_reading(), &[row.whole]),
+        maybe(row.single_to_reading(), short),
+        time(row.plain),
+        time(row.published),
+        ratio(row.plain_to_proved(), &[row.plain, row.whole]),
+        ratio(row.published_to_proved(), &[row.published, row.whole]),
+        maybe(row.growth, short),
+    ];
+    println!("| {} |", cells.join(" | "));
+}
+
+pub fn print_noise(noise: &Noise) {
+    println!("\n## Noise\n");
+    println!("The whole-log call of an interleaved log of 128 runs with the two-node rule.\n");
+    println!("| Moment | Shortest | median / shortest |");
+    println!("|---|--:|--:|");
+    for (moment, shortest, spread) in &noise.0 {
+        println!("| {moment} | {} | {spread:.2} |", seconds(*shortest));
+    }
+}
+
+/// A mark for what is carried on from shorter logs.
+fn mark(times: &[Time]) -> &'static str {
+    if times.iter().all(|time| time.is_taken) { "" } else { "~" }
+}
+
+fn time(time: Time) -> String {
+    format!("{}{}", mark(&[time]), seconds(time.seconds))
+}
+
+/// A time in the unit that suits it.
+pub fn seconds(seconds: f64) -> String {
+    match seconds {
+        s if s < 1e-3 => format!("{} µs", short(s * 1e6)),
+        s if s < 1.0 => format!("{} ms", short(s * 1e3)),
+        s if s < 600.0 => format!("{} s", short(s)),
+        s => format!("{} min", short(s / 60.0)),
+    }
+}
+
+/// A number with two or three digits that count.
+pub fn short(number: f64) -> String {
+    match number {
+        n if n < 0.1 => format!("{n:.4}"),
+        n if n < 10.0 => format!("{n:.2}"),
+        n if n < 100.0 => format!("{n:.1}"),
+        n => with_commas(n.round() as u64),
+    }
+}
+
+fn with_commas(number: u64) -> String {
+    let digits = number.to_string();
+    let mut text = String::new();
+    for (place, digit) in digits.chars().enumerate() {
+        if place > 0 && (digits.len() - place) % 3 == 0 {
+            text.push(',');
+        }
+        text.push(digit);
+    }
+    text
+}

@@ -6,8 +6,10 @@ use proved::{check_line, check_log, Check, VERDICT_BYTES, WORK_BYTES};
 use reference::rule::Rule;
 use std::time::{Duration, Instant};
 
-/// Each measurement is repeated for at least this long.
+/// A call is repeated for at least this long, and at least so often unless that takes too long.
 const AT_LEAST: Duration = Duration::from_millis(200);
+const REPEATS: usize = 3;
+const LONG_ENOUGH: Duration = Duration::from_secs(3);
 
 /// No call is made that is expected to take longer, in seconds.
 const LONGEST: f64 = 20.0;
@@ -23,7 +25,8 @@ pub struct Time {
 fn repeats<S>(state: &mut S, prepare: impl Fn(&mut S), call: impl Fn(&mut S)) -> Vec<f64> {
     let begin = Instant::now();
     let mut times = Vec::new();
-    while times.is_empty() || begin.elapsed() < AT_LEAST {
+    let is_enough = |count| count >= REPEATS || (count > 0 && begin.elapsed() >= LONG_ENOUGH);
+    while begin.elapsed() < AT_LEAST || !is_enough(times.len()) {
         prepare(state);
         let one = Instant::now();
         call(state);

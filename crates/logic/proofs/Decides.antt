@@ -24,6 +24,13 @@ use Rattle.logic.specs.Satisfies.{Binding, bind, HasLabel, Related, Same
 use Rattle.logic.specs.Model.{anyBelow, eval, numberAt, hasLabel?, related?, sameLabel?, modelOf}
 
 -- ── tests put together ──
+-- two tests of one claim are the same
+pub agree : {P : Type 0} (a b : Bool) → Tells a P → Tells b P → a ≡ b
+agree true true p q = refl
+agree true false p q = absurd (q .no refl (p .yes refl))
+agree false true p q = absurd (p .no refl (q .yes refl))
+agree false false p q = refl
+
 pub tell-both : {A B : Type 0} (a b : Bool) → Tells a A → Tells b B → Tells (a && b) (A × B)
 tell-both true true p q = tell-yes (p .yes refl, q .yes refl)
 tell-both true false p q = tell-no (λ h. q .no refl (h .1))
@@ -62,7 +69,7 @@ module _ (t : Trace) where
       tell-by (λ h. record { labelled = h .0; bytes = h .1 }) (λ h. (h .labelled, h .bytes))
       (tell-both _ _ (tell-not _ (tell-eq (numberAt t j) 0)) (tell-same (text (labelAt (t .labels) (numberAt t j))) l))
 
-  tell-related : (r : Relation.Relation) (j k : ℕ) → Tells (related? r t j k) (Related r t j k)
+  pub tell-related : (r : Relation.Relation) (j k : ℕ) → Tells (related? r t j k) (Related r t j k)
   tell-related r j k =
       tell-by (λ h. record { first = h .0; second = h .1 .0; relates = h .1 .1 }) (λ h. (h .first, (h .second, h .relates)))
       (tell-both _ _ (tell-finished j) (tell-both _ _ (tell-finished k) (relates-tells r (start (runAt t j)) (finish (runAt t j)) (start (runAt t k)) (finish (runAt t k)))))

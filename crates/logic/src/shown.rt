@@ -1,57 +1,15 @@
-// The plain bytes that the evaluator reads, made once for each verdict.
+// The labels of a rule file, by their numbers in a record.
 ghost use mathlib.Core.Path.{_≡_};
 ghost use Prim.Native.Nat.{ℕ, _<_, _≤_};
 ghost use lib.ListN.{getD};
 ghost use Rattle.labels.specs.Label.{labelOf};
 ghost use Rattle.labels.specs.Table.{lookup, Readable};
-ghost use Rattle.trace.specs.Trace.{noRun};
 ghost use Rattle.rules.specs.Labels.{labelBytes, LabelsOk};
-ghost use Rattle.logic.specs.Shown.{finishedFlag, slotNumber};
-use crate::MAX_RUNS;
+ghost use Rattle.logic.specs.Shown.{slotNumber};
 use labels::Label;
 use labels::LabelTable;
 use labels::Slot;
 use rules::MAX_LABELS;
-use trace::Run;
-use trace::RunTable;
-
-// 1 for a finished run, 0 for an open one.
-fn finished_flag(r: Run) -> u8
-    ensures { λ f. ⌜ f ≡ finishedFlag r ⌝ }
-{
-    if 0 < r.end.0 {
-        return 1;
-    }
-    0
-}
-
-// Which runs are finished.
-pub fn finished_runs(t: RunTable) -> [u8; MAX_RUNS]
-    ensures { λ f. ⌜ ((j : ℕ) → j < 128 → getD f j 0 ≡ finishedFlag (getD (t .list) j noRun)) ⌝ }
-{
-    let mut flags = [0u8; MAX_RUNS];
-    let mut j: usize = 0;
-    while j < MAX_RUNS {
-        let r = t.list[j];
-        flags[j] = finished_flag(r);
-        j += 1;
-    }
-    flags
-}
-
-// The number of each run's label.
-pub fn label_numbers(t: RunTable) -> [u8; MAX_RUNS]
-    ensures { λ n. ⌜ ((j : ℕ) → j < 128 → getD n j 0 ≡ getD (t .list) j noRun .label .0) ⌝ }
-{
-    let mut numbers = [0u8; MAX_RUNS];
-    let mut j: usize = 0;
-    while j < MAX_RUNS {
-        let r = t.list[j];
-        numbers[j] = r.label.0;
-        j += 1;
-    }
-    numbers
-}
 
 // A label's number in a table: 0 where it was never seen.
 fn number_of(t: LabelTable, x: Label) -> u8

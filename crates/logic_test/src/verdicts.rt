@@ -1,4 +1,4 @@
-// A rule's verdicts over a log: one letter for no lines, and one for each line.
+// A rule's verdicts over a log, each judged after its own line: one letter for no lines, and one for each line.
 ghost use Rattle.rules.specs.Rules.{Taken};
 use lines::Next;
 use logic::Verdict;
@@ -6,46 +6,28 @@ use rules::Rule;
 use rules::RuleRead;
 use trace::Outcome;
 use trace::Record;
-use trace::RunNo;
 
-// Writes the verdict: H or F.
-fn write_verdict(file: &[u8], x: Rule, r: Record, work: &[u8])
+// Writes the verdict after the lines that left a record: H or F.
+fn write_verdict(file: &[u8], x: Rule, r: Record)
     requires { ⌜ Taken (now file) x ⌝ }
 {
-    if work.len() < 16384 {
-        return;
-    }
     if !trace::is_record(r) {
         return;
     }
-    let v = logic::judge(file, x, r, work);
+    let v = timeline::judge_last(file, x, r);
     match v {
         Verdict::Holds => test_text::write(b"H"),
         Verdict::Fails => test_text::write(b"F"),
     }
 }
 
-// Brings the pair bytes of the run that a line begins or ends up to date.
-fn refresh(r: Record, z: RunNo, work: &mut [u8]) {
-    let runs = r.runs;
-    if work.len() < 16384 {
-        return;
-    }
-    if z.0 < 128 {
-        if runs.count <= 128 {
-            pairs::refresh_run(runs, z, work);
-        }
-    }
-}
-
 // Writes what a line leads to, and answers whether it was taken.
-fn show_line(file: &[u8], x: Rule, r: Record, o: Outcome, work: &mut [u8]) -> bool
+fn show_line(file: &[u8], x: Rule, r: Record, o: Outcome) -> bool
     requires { ⌜ Taken (now file) x ⌝ }
 {
     match o {
-        Outcome::Taken(k) => {
-            refresh(r, k, work);
-            write_verdict(file, x, r, work);
+        Outcome::Taken(_) => {
+            write_verdict(file, x, r);
             true
         }
         Outcome::Refused(code) => {
@@ -56,12 +38,11 @@ fn show_line(file: &[u8], x: Rule, r: Record, o: Outcome, work: &mut [u8]) -> bo
 }
 
 // Writes the verdicts over a log, up to the first refused line.
-fn show_log(file: &[u8], x: Rule, log: &[u8], work: &mut [u8])
+fn show_log(file: &[u8], x: Rule, log: &[u8])
     requires { ⌜ Taken (now file) x ⌝ }
 {
-    let s = pairs::start_record(work);
-    let mut r = s.state;
-    write_verdict(file, x, r, work);
+    let mut r = trace::no_lines();
+    write_verdict(file, x, r);
     let mut place: usize = 0;
     let mut left: usize = 256;
     while 0 < left {
@@ -72,7 +53,7 @@ fn show_log(file: &[u8], x: Rule, log: &[u8], work: &mut [u8])
         let a = test_steps::take_next(r, log, n);
         r = a.state;
         let o = a.outcome;
-        if !show_line(file, x, r, o, work) {
+        if !show_line(file, x, r, o) {
             return;
         }
         place = lines::place_after(n, place);
@@ -80,21 +61,15 @@ fn show_log(file: &[u8], x: Rule, log: &[u8], work: &mut [u8])
     }
 }
 
-// Reads a rule file and writes its verdicts over a log, in a work area.
-fn show_in(file: &[u8], log: &[u8], work: &mut [u8]) {
+// Reads a rule file and writes its verdicts over a log.
+pub fn show(file: &[u8], log: &[u8]) {
     let r = rules::read_rule(file);
     match r {
-        RuleRead::Rule(x) => show_log(file, x, log, work),
+        RuleRead::Rule(x) => show_log(file, x, log),
         RuleRead::Refused(code) => {
             test_text::write(b"0 R");
             test_text::write_number(code as u64);
         }
     }
     test_text::write(b"\n");
-}
-
-// Reads a rule file and writes its verdicts over a log.
-pub fn show(file: &[u8], log: &[u8]) {
-    let mut work = [0u8; 16384];
-    show_in(file, log, &mut work);
 }

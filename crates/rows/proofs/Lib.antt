@@ -4,3 +4,4 @@ pub mod Between
 pub mod Given
 pub mod Ranked
 pub mod Meaning
+pub mod PairBytes

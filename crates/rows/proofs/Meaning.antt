@@ -26,7 +26,7 @@ use Rattle.rules.specs.Labels.{labelBytes}
 use Rattle.logic.specs.Satisfies.{Satisfies}
 use Rattle.logic.specs.Model.{eval, numberAt, hasLabel?, sameLabel?}
 use Rattle.logic.specs.Shown.{sameNumber, numberFor}
-use Rattle.logic.proofs.Decides.{eval-decides}
+use Rattle.logic.proofs.Decides.{agree, eval-decides}
 use Rattle.logic.proofs.LabelSays.{accepted-written, label-says, same-says}
 use Rattle.order.specs.declared.Order.{Order}
 use Rattle.order.specs.Order.{orderTo, finishOrder}
@@ -38,13 +38,6 @@ use Rattle.rows.specs.Values.{holds, pairValue, givenValue, listedValue,
 use Rattle.rows.specs.ByRank.{rankedTo, OrderFits, ByRank, RowsFilled}
 use Rattle.rows.specs.RankModel.{rankRun, rankModel}
 use Rattle.rows.proofs.Ranked.{ranked-in, ranked-out}
-
--- two tests of one claim are the same
-agree : {P : Type 0} (a b : Bool) → Tells a P → Tells b P → a ≡ b
-agree true true p q = refl
-agree true false p q = absurd (q .no refl (p .yes refl))
-agree false true p q = absurd (p .no refl (q .yes refl))
-agree false false p q = refl
 
 -- within a list the default has no part
 pub any-default : (xs : List ℕ) (i d e : ℕ) → i < length xs → getD xs i d ≡ getD xs i e

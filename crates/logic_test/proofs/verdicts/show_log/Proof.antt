@@ -1,19 +1,17 @@
--- The loop takes at most 256 lines, and the work area keeps its length.
+-- The loop takes at most 256 lines.
 use Prim.Native.Nat.{_≤_}
-use mathlib.Core.Path.{_≡_}
 use borrow.Author.Needs.{needs}
-use lib.ListN.{length}
 use Rattle.logic_test.proofs.verdicts.show_log.Statement.{statement}
 use Rattle.logic_test.proofs.verdicts.show_log.Tie as tie
 
 abbrev Inv-loop : tie.InvT-loop
-Inv-loop file x log work₀ r₀ place₀ left₀ work r place left = (left ≤ 256) × (length work ≡ length work₀)
+Inv-loop file x log r₀ place₀ left₀ r place left = left ≤ 256
 
 abbrev μ-loop : tie.MeasureT-loop
-μ-loop file x log work₀ r₀ place₀ left₀ work r place left = left
+μ-loop file x log r₀ place₀ left₀ r place left = left
 
-start-record-requires : tie.Need-start-record-requires Inv-loop μ-loop
-start-record-requires c κs = search needs
+no-lines-requires : tie.Need-no-lines-requires Inv-loop μ-loop
+no-lines-requires c κs = search needs
 
 write-verdict-requires : tie.Need-write-verdict-requires Inv-loop μ-loop
 write-verdict-requires c κs = search needs
@@ -27,9 +25,6 @@ next-line-requires c κs = search needs
 enum-told : tie.Need-enum-told Inv-loop μ-loop
 enum-told c = search needs
 
-same-length : tie.Need-same-length Inv-loop μ-loop
-same-length c = search needs
-
 returns : tie.Need-returns Inv-loop μ-loop
 returns c = search needs
 
@@ -38,9 +33,6 @@ take-next-requires c κs = search needs
 
 show-line-requires : tie.Need-show-line-requires Inv-loop μ-loop
 show-line-requires c κs = search needs
-
-same-length-2 : tie.Need-same-length-2 Inv-loop μ-loop
-same-length-2 c = search needs
 
 returns-2 : tie.Need-returns-2 Inv-loop μ-loop
 returns-2 c = search needs
@@ -57,9 +49,6 @@ loop-less c = search needs
 loop-again : tie.Need-loop-again Inv-loop μ-loop
 loop-again c = search needs
 
-same-length-3 : tie.Need-same-length-3 Inv-loop μ-loop
-same-length-3 c = search needs
-
 returns-3 : tie.Need-returns-3 Inv-loop μ-loop
 returns-3 c = search needs
 
@@ -69,20 +58,17 @@ show-log-spec =
     (tie.spec
     Inv-loop
     μ-loop
-    start-record-requires
+    no-lines-requires
     write-verdict-requires
     loop-holds
     next-line-requires
     enum-told
-    same-length
     returns
     take-next-requires
     show-line-requires
-    same-length-2
     returns-2
     place-after-requires
     sub-left
     loop-less
     loop-again
-    same-length-3
     returns-3)

@@ -1,21 +1,17 @@
--- The record is one, and so fits the evaluator; the work area is long enough.
+-- The record is one that accepted lines leave.
 use borrow.Author.Tests.{not-false}
-use Rattle.trace.proofs.Bounds.{valid-fits}
 use borrow.Author.Needs.{needs}
 use Rattle.logic_test.proofs.verdicts.write_verdict.Statement.{statement}
 use Rattle.logic_test.proofs.verdicts.write_verdict.Tie as tie
 
-returns : tie.Need-returns
-returns c = search needs
-
 is-record-requires : tie.Need-is-record-requires
 is-record-requires c κs = search needs
 
-returns-2 : tie.Need-returns-2
-returns-2 c = search needs
+returns : tie.Need-returns
+returns c = search needs
 
-judge-requires : tie.Need-judge-requires
-judge-requires c κs = (c .before .before .before .before .before .pre, (valid-fits _ (c .before .is-record .ensures .yes (not-false _ (c .if2 .left))), search needs))
+judge-last-requires : tie.Need-judge-last-requires
+judge-last-requires c κs = (search needs, c .before .is-record .ensures .yes (not-false _ (c .if1 .left)))
 
 enum-told : tie.Need-enum-told
 enum-told c = search needs
@@ -35,25 +31,24 @@ slice-aggregate-write-2 c = search needs
 write-requires-2 : tie.Need-write-requires-2
 write-requires-2 c κs = search needs
 
+returns-2 : tie.Need-returns-2
+returns-2 c = search needs
+
 returns-3 : tie.Need-returns-3
 returns-3 c = search needs
-
-returns-4 : tie.Need-returns-4
-returns-4 c = search needs
 
 pub write-verdict-spec : {M : Type 1} → statement M
 write-verdict-spec =
     tie.close
     (tie.spec
-    returns
     is-record-requires
-    returns-2
-    judge-requires
+    returns
+    judge-last-requires
     enum-told
     slice-aggregate-write
     write-requires
     enum-told-2
     slice-aggregate-write-2
     write-requires-2
-    returns-3
-    returns-4)
+    returns-2
+    returns-3)

@@ -1,8 +1,7 @@
 -- A file that is read as a rule is taken.
-use mathlib.Core.Logic.{⊎-elim}
 use borrow.Author.Needs.{needs}
-use Rattle.logic_test.proofs.verdicts.show_in.Statement.{statement}
-use Rattle.logic_test.proofs.verdicts.show_in.Tie as tie
+use Rattle.logic_test.proofs.verdicts.show.Statement.{statement}
+use Rattle.logic_test.proofs.verdicts.show.Tie as tie
 
 read-rule-requires : tie.Need-read-rule-requires
 read-rule-requires c κs = search needs
@@ -11,7 +10,7 @@ enum-known-r : tie.Need-enum-known-r
 enum-known-r c = search needs
 
 show-log-requires : tie.Need-show-log-requires
-show-log-requires c κs = c .before .before .before .before .read-rule .ensures .taken _ (c .before .before .r .given .1)
+show-log-requires c κs = c .before .before .before .read-rule .ensures .taken _ (c .before .r .given .1)
 
 enum-known-r-2 : tie.Need-enum-known-r-2
 enum-known-r-2 c = search needs
@@ -34,14 +33,11 @@ slice-aggregate-write-2 c = search needs
 write-requires-2 : tie.Need-write-requires-2
 write-requires-2 c κs = search needs
 
-same-length : tie.Need-same-length
-same-length c = ⊎-elim (λ w. search needs) (λ w. search needs) (c .before .before .match .came)
-
 returns : tie.Need-returns
 returns c = search needs
 
-pub show-in-spec : {M : Type 1} → statement M
-show-in-spec =
+pub show-spec : {M : Type 1} → statement M
+show-spec =
     tie.close
     (tie.spec
     read-rule-requires
@@ -54,5 +50,4 @@ show-in-spec =
     write-number-requires
     slice-aggregate-write-2
     write-requires-2
-    same-length
     returns)

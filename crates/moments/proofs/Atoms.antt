@@ -45,11 +45,10 @@ module _ (table file : List ℕ) (runs : ℕ) (M : Model) (rows : RowsOf table f
 
 -- ── a node ──
 module _ (table file : List ℕ) (runs : ℕ) (M : Model) (rows : RowsOf table file runs M) (x : Node) (ok : AtomOk (labelCount file) x) (ρ : Binding) (i : ℕ) (is : i ≡ ρ (x .a)) (low : i ≤ 128) where
-  pub atom-label : (s : RunSet) → x .kind ≡ 4 → ((j : ℕ) → j < 128 → mem s j ≡ mem (row table (1024 + x .b)) (standsFor i j)) → (j : ℕ) → j < 128 → mem s j ≡ atomOf M file x (at ρ j)
+  pub atom-label : x .kind ≡ 4 → (j : ℕ) → j < 128 → mem (row table (1024 + x .b)) (standsFor i j) ≡ atomOf M file x (at ρ j)
   unfolding atomOf
-  atom-label s e h j l =
-      rw (eq-eqb (x .kind) 4 e, ← is) (h j l ∙ rows .labels-are (x .b) (standsFor i j) (ok .place e) (stands-low i j low l))
+  atom-label e j l = rw (eq-eqb (x .kind) 4 e, ← is) (rows .labels-are (x .b) (standsFor i j) (ok .place e) (stands-low i j low l))
 
-  pub atom-pair : (s : RunSet) (k y : ℕ) → (x .kind ≡ 4 → ⊥) → k ≡ x .kind - 5 → y ≡ ρ (x .b) → ((j : ℕ) → j < 128 → mem s j ≡ pairOf M k (standsFor i j) (standsFor y j)) → (j : ℕ) → j < 128 → mem s j ≡ atomOf M file x (at ρ j)
+  pub atom-pair : (k y : ℕ) → (x .kind ≡ 4 → ⊥) → k ≡ x .kind - 5 → y ≡ ρ (x .b) → (j : ℕ) → pairOf M k (standsFor i j) (standsFor y j) ≡ atomOf M file x (at ρ j)
   unfolding atomOf
-  atom-pair s k y e d f h j l = rw (ne-eqb (x .kind) 4 e, ← is, ← f, ← d) (h j l)
+  atom-pair k y e d f j = rw (ne-eqb (x .kind) 4 e, ← is, ← f, ← d) refl

@@ -37,10 +37,10 @@ at-each ρ v j h = fun-ext (λ w. go w (eqb v w))
 pub at-each-fixed : (ρ : Binding) (v i j : ℕ) → Fixed ρ → at (bind ρ v each) i ≡ bind (at ρ j) v i
 at-each-fixed ρ v i j h = rw (at-fixed ρ j h) (at-each ρ v i h)
 
-pub bind-within : (ρ : Binding) (v r : ℕ) → ((u : ℕ) → ρ u ≤ 128) → r ≤ 128 → (w : ℕ) → bind ρ v r w ≤ 128
-bind-within ρ v r h l w = go (eqb v w)
+pub bind-within : (ρ : Binding) (v r most : ℕ) → ((u : ℕ) → ρ u ≤ most) → r ≤ most → (w : ℕ) → bind ρ v r w ≤ most
+bind-within ρ v r most h l w = go (eqb v w)
   where
-    go : (x : Bool) → cond x r (ρ w) ≤ 128
+    go : (x : Bool) → cond x r (ρ w) ≤ most
     go true = l
     go false = h w
 

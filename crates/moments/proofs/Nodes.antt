@@ -5,7 +5,7 @@ use mathlib.Core.Bool.{Bool, true, false, not, _&&_, and-assoc}
 use mathlib.Core.List.{List}
 use Rattle.sets.specs.Sets.{mem}
 use Rattle.sets.specs.declared.RunSet.{RunSet}
-use Rattle.rules.specs.Formula.{exists}
+use Rattle.rules.specs.Formula.{Formula, exists}
 use Rattle.rules.specs.Parts.{labelCount}
 use Rattle.rules.specs.Table.{opOf, nodeAt, Good, AtomOk, shape, formulaAt}
 use Rattle.rules.specs.declared.Node.{Node}
@@ -14,6 +14,7 @@ use Rattle.logic.specs.Satisfies.{Binding}
 use Rattle.logic.specs.Model.{Model, eval}
 use Rattle.moments.specs.Truth.{truth, at, TrueAt, atMoment}
 use Rattle.moments.specs.Rows.{pairOf, atomOf}
+use Rattle.moments.specs.Matrix.{Narrowed}
 
 none-part : (d t u : Bool) → (d && t) ≡ false → (d && t) ≡ (d && (t && u))
 none-part d t u e = e ∙ (sym (ap (λ (x : Bool). x && u) e) ∙ and-assoc d t u)
@@ -21,6 +22,9 @@ none-part d t u e = e ∙ (sym (ap (λ (x : Bool). x && u) e) ∙ and-assoc d t 
 minus-part : (d t : Bool) → (d && not (d && t)) ≡ (d && not t)
 minus-part true t = refl
 minus-part false t = refl
+
+pub true-from : (M : Model) (f : Formula) (ρ : Binding) (a b r : RunSet) → a ≡ b → TrueAt M f ρ a r → TrueAt M f ρ b r
+true-from M f ρ a b r e = subst (λ (s : RunSet). TrueAt M f ρ s r) e
 
 module _ (M : Model) (ρ : Binding) (file : List ℕ) (p n : ℕ) (x : Node) (is : x ≡ nodeAt file p n) (good : Good file p n) where
   abbrev Moments : ℕ → RunSet → RunSet → Type 0
@@ -40,10 +44,10 @@ module _ (M : Model) (ρ : Binding) (file : List ℕ) (p n : ℕ) (x : Node) (is
   moments-and-none dom l k hx z j h =
       rw (formula-and file p n x is good k) (hx j h ∙ none-part (mem dom j) (holds (x .a) j) (holds (x .b) j) (sym (hx j h) ∙ z j))
 
-  pub moments-not : (dom l r : RunSet) → x .kind ≡ 2 → Moments (x .a) dom l → ((j : ℕ) → mem r j ≡ (mem dom j && not (mem l j))) → Moments n dom r
+  pub moments-not : (dom l r : RunSet) → x .kind ≡ 2 → Moments (x .a) dom l → Narrowed (λ j. not (mem l j)) dom r → Moments n dom r
   unfolding eval
   moments-not dom l r k hx hr j h =
-      rw (formula-not file p n x is good k) (hr j ∙ (ap (λ (b : Bool). mem dom j && not b) (hx j h) ∙ minus-part (mem dom j) (holds (x .a) j)))
+      rw (formula-not file p n x is good k) (hr j h ∙ (ap (λ (b : Bool). mem dom j && not b) (hx j h) ∙ minus-part (mem dom j) (holds (x .a) j)))
 
   pub moments-some : (dom r : RunSet) → x .kind ≡ 3 → TrueAt M (exists (x .a) (formulaAt file p (x .b))) ρ dom r → Moments n dom r
   moments-some dom r k hx j h = rw (formula-some file p n x is good k) (hx j h)
@@ -60,5 +64,5 @@ module _ (M : Model) (ρ : Binding) (file : List ℕ) (p n : ℕ) (x : Node) (is
         let h : AtomAs (x .kind) = by-kind (x .kind) (o .low) (o .high) (at-kind 4 refl) (at-kind 5 refl) (at-kind 6 refl) (at-kind 7 refl) (at-kind 8 refl) in
         h ∙ sym (ap (eval (atMoment M m) σ) (formula-at file p n x is good))
 
-  pub moments-atom : (dom s r : RunSet) → AtomOk (labelCount file) x → ((j : ℕ) → j < 128 → mem s j ≡ atomOf M file x (at ρ j)) → ((j : ℕ) → mem r j ≡ (mem dom j && mem s j)) → Moments n dom r
-  moments-atom dom s r o hs hr j h = hr j ∙ ap (λ (b : Bool). mem dom j && b) (hs j h ∙ atom-truth (at ρ j) j o)
+  pub moments-atom : (dom r : RunSet) → AtomOk (labelCount file) x → Narrowed (λ j. atomOf M file x (at ρ j)) dom r → Moments n dom r
+  moments-atom dom r o hr j h = hr j h ∙ ap (λ (b : Bool). mem dom j && b) (atom-truth (at ρ j) j o)

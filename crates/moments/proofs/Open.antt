@@ -18,11 +18,11 @@ use Rattle.logic.specs.Satisfies.{Binding, bind}
 use Rattle.logic.specs.Model.{Model, eval}
 use Rattle.moments.specs.Truth.{truth, each, at, Fixed, TrueAt, FalseWithout}
 use Rattle.shape.specs.Shape.{flat?, free?}
-use Rattle.moments.specs.Shape.{Flats, Frees}
+use Rattle.moments.specs.Shape.{Heights, Frees}
 use Rattle.moments.specs.Open.{Keeps, Apart, Marked}
 use Rattle.moments.proofs.Marks.{at-each-fixed}
 use Rattle.moments.proofs.Masks.{marked-on, marked-more}
-use Rattle.moments.proofs.Truth.{flat-truth, free-truth, found-at}
+use Rattle.moments.proofs.Truth.{height-flat, flat-truth, free-truth, found-at}
 
 -- ── formulas ──
 module _ (M : Model) (ρ : Binding) where
@@ -70,10 +70,10 @@ module _ (M : Model) (ρ : Binding) (file : List ℕ) (p n : ℕ) (x : Node) (is
   pub keeps-some : (any more : ℕ) (r : RunSet) → x .kind ≡ 3 → Marked any (x .a) more → Keeps M ρ (formulaAt file p (x .b)) (bit more) dom r → Keeps M ρ (formulaAt file p n) (bit any) dom r
   keeps-some any more r k m h = rw (formula-some file p n x is good k) (keep-some M ρ (x .a) _ (bit any) (bit more) dom r (marked-on any (x .a) more m) (marked-more any (x .a) more m) h)
 
-pub keeps-flat : (M : Model) (ρ : Binding) (file : List ℕ) (p n : ℕ) (flats frees : List ℕ) (any : ℕ) (dom r : RunSet) → Flats file p n flats → Frees file p n frees
-    → (getD flats n 0 ≡ 1) × Apart (getD frees n 0) any → TrueAt M (formulaAt file p n) ρ dom r → Keeps M ρ (formulaAt file p n) (bit any) dom r
-keeps-flat M ρ file p n flats frees any dom r fl fr q h =
-    keep-flat M ρ (formulaAt file p n) (bit any) dom r (fl .plain n (omega arith) (q .0)) (λ w u. q .1 w (fr .free n (omega arith) w u)) h
+pub keeps-flat : (M : Model) (ρ : Binding) (file : List ℕ) (p n : ℕ) (heights frees : List ℕ) (any : ℕ) (dom r : RunSet) → Heights file p n heights → Frees file p n frees
+    → (getD heights n 0 ≡ 0) × Apart (getD frees n 0) any → TrueAt M (formulaAt file p n) ρ dom r → Keeps M ρ (formulaAt file p n) (bit any) dom r
+keeps-flat M ρ file p n heights frees any dom r hi fr q h =
+    keep-flat M ρ (formulaAt file p n) (bit any) dom r (height-flat (formulaAt file p n) (sym (hi .high n (omega arith)) ∙ q .0)) (λ w u. q .1 w (fr .free n (omega arith) w u)) h
 
 -- ── runs that are left out ──
 module _ (M : Model) (f : Formula) (ρ : Binding) (v : ℕ) (finished : RunSet) (all : (j : ℕ) → mem finished j ≡ ltb j (M .runs)) where

@@ -12,9 +12,10 @@ use Rattle.rules.specs.Formula.{Formula, exists}
 use Rattle.logic.specs.Satisfies.{Binding, bind}
 use Rattle.logic.specs.Model.{Model, anyBelow, eval}
 use Rattle.moments.specs.Truth.{truth, each, at, Fixed, TrueAt, FalseWithout}
-use Rattle.shape.specs.Shape.{flat?}
+use Rattle.shape.specs.Shape.{height}
+use Rattle.moments.specs.Matrix.{Narrowed}
 use Rattle.moments.proofs.Marks.{at-bind, at-each-fixed}
-use Rattle.moments.proofs.Truth.{flat-truth, up-to-moment, any-up-agree}
+use Rattle.moments.proofs.Truth.{height-flat, flat-truth, up-to-moment, any-up-agree}
 
 -- ── the moments that are left ──
 -- the moments of dom from r on that are not in got; none where keep lacks r
@@ -83,15 +84,15 @@ module _ (M : Model) (f : Formula) (ρ : Binding) (v : ℕ) (dom : RunSet) where
 
 -- ── at once ──
 -- a body without "some" does not depend on the moment: from the first run on that satisfies it, "some" is true
-module _ (M : Model) (f : Formula) (ρ σ : Binding) (v : ℕ) (dom finished found up r : RunSet) where
-  pub some-at-once : Fixed ρ → flat? f ≡ true → σ ≡ bind ρ v each → ((j : ℕ) → mem finished j ≡ ltb j (M .runs)) → TrueAt M f σ finished found
-      → ((j : ℕ) → j < 128 → mem up j ≡ anyUpTo j (mem found)) → ((j : ℕ) → mem r j ≡ (mem dom j && mem up j)) → TrueAt M (exists v f) ρ dom r
+module _ (M : Model) (f : Formula) (ρ σ : Binding) (v : ℕ) (dom finished found r : RunSet) where
+  pub some-at-once : Fixed ρ → height f ≡ 0 → σ ≡ bind ρ v each → ((j : ℕ) → mem finished j ≡ ltb j (M .runs)) → TrueAt M f σ finished found
+      → Narrowed (λ j. anyUpTo j (mem found)) dom r → TrueAt M (exists v f) ρ dom r
   unfolding eval
-  some-at-once fx fl e hf ht hu hr j h =
+  some-at-once fx low e hf ht hr j h =
       let served : ℕ → Bool = λ i. truth M f (bind (at ρ j) v i) j in
       let one : (i : ℕ) → i ≤ j → mem found i ≡ (ltb i (M .runs) && served i) =
       λ i l.
       ht i (omega (arith, l))
       ∙ ap₂ _&&_ (hf i)
-      (ap (λ (τ : Binding). truth M f τ i) (ap (λ (τ : Binding). at τ i) e ∙ at-each-fixed ρ v i j fx) ∙ flat-truth M i j f (bind (at ρ j) v i) fl) in
-      hr j ∙ ap (λ (x : Bool). mem dom j && x) (hu j h ∙ (any-up-agree (mem found) (λ i. ltb i (M .runs) && served i) j one ∙ up-to-moment (M .runs) j served))
+      (ap (λ (τ : Binding). truth M f τ i) (ap (λ (τ : Binding). at τ i) e ∙ at-each-fixed ρ v i j fx) ∙ flat-truth M i j f (bind (at ρ j) v i) (height-flat f low)) in
+      hr j h ∙ ap (λ (x : Bool). mem dom j && x) (any-up-agree (mem found) (λ i. ltb i (M .runs) && served i) j one ∙ up-to-moment (M .runs) j served)

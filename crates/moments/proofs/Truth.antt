@@ -13,8 +13,13 @@ use Rattle.logic.specs.Model.{Model, anyBelow}
 use Rattle.logic.proofs.Closed.{any-agree}
 use Rattle.logic.proofs.Nodes.{found-yes}
 use Rattle.moments.specs.Truth.{atMoment, truth}
-use Rattle.shape.specs.Shape.{flat?}
+use Rattle.shape.specs.Shape.{flat?, height}
+use Rattle.shape.proofs.Shapes.{flat-height}
 use Rattle.shape.proofs.Truth.{AgreeOnFree, eval-free, eval-flat}
+
+-- height 0 is no "some"
+pub height-flat : (f : Formula) → height f ≡ 0 → flat? f ≡ true
+height-flat f e = flat-height f ∙ le-leb (height f) 0 (omega arith)
 
 -- ── what truth at a moment depends on ──
 module _ (M : Model) (m n : ℕ) where
@@ -41,9 +46,14 @@ same-truth true y f g = sym (f refl)
 same-truth false true f g = g refl
 same-truth false false f g = refl
 
-any-same : (p : ℕ → Bool) (n : ℕ) → anyIn n p ≡ anyBelow n p
+pub any-same : (p : ℕ → Bool) (n : ℕ) → anyIn n p ≡ anyBelow n p
 any-same p zero = refl
 any-same p (suc n) = ap (λ (b : Bool). b || p n) (any-same p n)
+
+pub any-and : (d : Bool) (p : ℕ → Bool) (n : ℕ) → anyBelow n (λ i. d && p i) ≡ (d && anyBelow n p)
+any-and true p n = refl
+any-and false p zero = refl
+any-and false p (suc n) = ap (λ (b : Bool). b || false) (any-and false p n)
 
 -- the runs up to moment m among the first n are the first n among those up to m
 module _ (n m : ℕ) (p : ℕ → Bool) where

@@ -1,14 +1,17 @@
 -- What the evaluator is handed: the rule file with its table of nodes and their shapes, the table of rows, and the bindings.
 use Prim.Native.Nat.{ℕ, _≤_}
+use mathlib.Core.Path.{_≡_}
 use mathlib.Core.List.{List}
 use lib.ListN.{length, getD}
 use Rattle.rules.specs.Parts.{labelCount}
-use Rattle.rules.specs.Table.{Good}
+use Rattle.rules.specs.Table.{Good, formulaAt}
 use Rattle.logic.specs.Satisfies.{Binding}
+use Rattle.shape.specs.Shape.{height}
 use Rattle.moments.specs.declared.Rank.{Rank}
 use Rattle.moments.specs.declared.Bindings.{Bindings}
-use Rattle.moments.specs.Shape.{Flats, Frees}
+use Rattle.moments.specs.Shape.{Heights, Frees}
 use Rattle.moments.specs.Truth.{each}
+use Rattle.moments.specs.Matrix.{eachRow}
 
 abbrev pub rank : ℕ → Rank
 rank r = record { 0 = r }
@@ -30,11 +33,21 @@ abbrev pub labelRows : ℕ
 labelRows = 64
 
 -- all that evaluating node n needs
-pub record Ready (file : List ℕ) (p : ℕ) (flats frees table : List ℕ) (runs n : ℕ) (b : Bindings) : Type 0 where
+pub record Ready (file : List ℕ) (p : ℕ) (heights frees table : List ℕ) (runs n : ℕ) (b : Bindings) : Type 0 where
   pub good : Good file p n
-  pub flats-are : Flats file p n flats
+  pub heights-are : Heights file p n heights
   pub frees-are : Frees file p n frees
   pub table-long : tableWords ≤ length table
   pub labels-few : labelCount file ≤ labelRows
   pub runs-few : runs ≤ 128
   pub in-range : InRange b
+
+-- All that evaluating node n in a matrix needs. At most one "some" lies below, and none where a variable stands for each run already.
+pub record RowsReady (file : List ℕ) (p : ℕ) (table : List ℕ) (runs n : ℕ) (b : Bindings) : Type 0 where
+  pub good : Good file p n
+  pub table-long : tableWords ≤ length table
+  pub labels-few : labelCount file ≤ labelRows
+  pub runs-few : runs ≤ 128
+  pub in-range : (v : ℕ) → binding b v ≤ eachRow
+  pub low : height (formulaAt file p n) ≤ 1
+  pub alone : (v : ℕ) → binding b v ≡ each → height (formulaAt file p n) ≡ 0

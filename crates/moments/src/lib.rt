@@ -2,9 +2,11 @@
 //
 // Finished runs are numbered by rank, in the order in which they finished, and moment m is the one at which the runs of rank 0 to m
 // are finished. `times::times` answers the moments at which the formula of a node is true, as one set.
+mod keep;
+mod matrix;
 mod ranks;
-mod rows;
 mod search;
+mod table;
 pub mod times;
 
 // The rank of a run that a variable stands for, or EACH.

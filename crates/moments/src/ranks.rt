@@ -1,6 +1,6 @@
 // Variables and the ranks that they stand for.
 ghost use mathlib.Core.Path.{_≡_};
-ghost use Prim.Native.Nat.{_<_, _≤_};
+ghost use Prim.Native.Nat.{_<_};
 ghost use Rattle.lists.specs.Tells.{Tells};
 ghost use Rattle.logic.specs.Satisfies.{bind};
 ghost use Rattle.moments.specs.Truth.{Fixed};
@@ -12,8 +12,8 @@ use rules::VARIABLES;
 
 // The rank that variable v stands for.
 pub fn bound(b: Bindings, v: usize) -> usize
-    requires { ⌜ (v < 4) × InRange b ⌝ }
-    ensures { λ r. ⌜ (r ≡ binding b v) × (r ≤ 128) ⌝ }
+    requires { ⌜ v < 4 ⌝ }
+    ensures { λ r. ⌜ r ≡ binding b v ⌝ }
 {
     let r = b.run[v];
     r.0 as usize

@@ -1,6 +1,6 @@
 // What the search for a run leaves out: moments and runs that need no look.
 ghost use mathlib.Core.Path.{_≡_};
-ghost use mathlib.Core.Bool.{not, _&&_};
+ghost use mathlib.Core.Bool.{true, not, _&&_};
 ghost use Prim.Native.Nat.{ℕ, _<_};
 ghost use lib.Dec.{leb};
 ghost use lib.ListN.{length, getD};
@@ -13,13 +13,28 @@ use crate::Bindings;
 use crate::ranks::fixed;
 use sets::RunSet;
 
-// Whether a node has no "some" and no variable is marked.
-pub fn short(flats: &[u8], node: usize, b: Bindings) -> bool
-    requires { ⌜ node < length (now flats) ⌝ }
+// Up to so many runs of a word are few.
+const FEW: u32 = 4;
+
+// How many "some" lie one inside another in a node, if no variable is marked; two otherwise.
+pub fn unmarked_height(heights: &[u8], node: usize, b: Bindings) -> u8
+    requires { ⌜ node < length (now heights) ⌝ }
     requires { ⌜ InRange b ⌝ }
-    ensures { λ r. ⌜ Tells r ((getD (now (flats .entry)) node 0 ≡ 1) × Fixed (binding b)) ⌝ }
+    ensures { λ r. ⌜ (r < 2 → (getD (now (heights .entry)) node 0 ≡ r) × Fixed (binding b)) ⌝ }
 {
-    if flats[node] == 1 { fixed(b) } else { false }
+    if fixed(b) { heights[node] } else { 2 }
+}
+
+// Whether a search goes by rows: where one "some" lies below and more than a few runs are left. For few, run after run is faster.
+pub fn by_rows(height: u8, keep: RunSet) -> bool
+    ensures { λ r. ⌜ (r ≡ true → height ≡ 1) ⌝ }
+{
+    if height == 1 { many(keep) } else { false }
+}
+
+// Whether a set has more than a few runs.
+fn many(s: RunSet) -> bool {
+    u64::count_ones(s.lo) > FEW || u64::count_ones(s.hi) > FEW
 }
 
 // The moments of dom from r on that are not in got; none if r is not in keep.
@@ -50,11 +65,11 @@ pub fn marked(b: u8, v: usize) -> u8
 }
 
 // Whether a node has no "some" and none of the variables of a mask stands free in it.
-pub fn closed(flats: &[u8], frees: &[u8], node: usize, any: u8) -> bool
-    requires { ⌜ (node < length (now flats)) × (node < length (now frees)) ⌝ }
-    ensures { λ r. ⌜ Tells r ((getD (now (flats .entry)) node 0 ≡ 1) × Apart (getD (now (frees .entry)) node 0) any) ⌝ }
+pub fn closed(heights: &[u8], frees: &[u8], node: usize, any: u8) -> bool
+    requires { ⌜ (node < length (now heights)) × (node < length (now frees)) ⌝ }
+    ensures { λ r. ⌜ Tells r ((getD (now (heights .entry)) node 0 ≡ 0) × Apart (getD (now (frees .entry)) node 0) any) ⌝ }
 {
-    if flats[node] == 1 {
+    if heights[node] == 0 {
         apart(frees[node], any)
     } else {
         false

@@ -14,13 +14,15 @@ ghost use Rattle.moments.specs.Ready.{binding, Ready};
 use crate::Bindings;
 use crate::EACH;
 use crate::Rank;
+use crate::keep::some_rows;
 use crate::ranks::fixed;
 use crate::ranks::rebound;
-use crate::rows::atom_set;
+use crate::search::by_rows;
 use crate::search::closed;
 use crate::search::left_of;
 use crate::search::marked;
-use crate::search::short;
+use crate::search::unmarked_height;
+use crate::table::atom_set;
 use rules::table::node_at;
 use sets::RunSet;
 
@@ -28,7 +30,7 @@ use sets::RunSet;
 pub fn times(
     file: &[u8],
     first: usize,
-    flats: &[u8],
+    heights: &[u8],
     frees: &[u8],
     table: &[u64],
     runs: usize,
@@ -36,24 +38,24 @@ pub fn times(
     b: Bindings,
     dom: RunSet,
 ) -> RunSet
-    requires { ⌜ Ready (now file) first (now flats) (now frees) (now table) runs node b ⌝ }
+    requires { ⌜ Ready (now file) first (now heights) (now frees) (now table) runs node b ⌝ }
     ensures { λ r. ⌜ ((M : Model) → RowsOf (now (table .entry)) (now (file .entry)) runs M
         → TrueAt M (formulaAt (now (file .entry)) first node) (binding b) dom r) ⌝ }
 {
     let x = node_at(file, first, node);
     let kind = x.kind;
     if kind == 1 {
-        let l = times(file, first, flats, frees, table, runs, x.a, b, dom);
+        let l = times(file, first, heights, frees, table, runs, x.a, b, dom);
         if sets::none(l) {
             l
         } else {
-            times(file, first, flats, frees, table, runs, x.b, b, l)
+            times(file, first, heights, frees, table, runs, x.b, b, l)
         }
     } else if kind == 2 {
-        let l = times(file, first, flats, frees, table, runs, x.a, b, dom);
+        let l = times(file, first, heights, frees, table, runs, x.a, b, dom);
         sets::minus(dom, l)
     } else if kind == 3 {
-        some(file, first, flats, frees, table, runs, x.b, x.a, b, dom)
+        some(file, first, heights, frees, table, runs, x.b, x.a, b, dom)
     } else {
         sets::meet(dom, atom_set(table, x, b))
     }
@@ -63,7 +65,7 @@ pub fn times(
 fn some(
     file: &[u8],
     first: usize,
-    flats: &[u8],
+    heights: &[u8],
     frees: &[u8],
     table: &[u64],
     runs: usize,
@@ -72,15 +74,32 @@ fn some(
     b: Bindings,
     dom: RunSet,
 ) -> RunSet
-    requires { ⌜ Ready (now file) first (now flats) (now frees) (now table) runs child b ⌝ }
+    requires { ⌜ Ready (now file) first (now heights) (now frees) (now table) runs child b ⌝ }
     requires { ⌜ v < 4 ⌝ }
     ensures { λ r. ⌜ ((M : Model) → RowsOf (now (table .entry)) (now (file .entry)) runs M
         → TrueAt M (exists v (formulaAt (now (file .entry)) first child)) (binding b) dom r) ⌝ }
 {
-    if short(flats, child, b) {
-        some_flat(file, first, flats, frees, table, runs, child, v, b, dom)
+    let height = unmarked_height(heights, child, b);
+    if height == 0 {
+        return some_flat(file, first, heights, frees, table, runs, child, v, b, dom);
+    }
+    let keep = kept(file, first, heights, frees, table, runs, child, v, b);
+    if by_rows(height, keep) {
+        some_rows(file, first, table, runs, child, v, b, dom, keep)
     } else {
-        some_loop(file, first, flats, frees, table, runs, child, v, b, dom)
+        some_loop(
+            file,
+            first,
+            heights,
+            frees,
+            table,
+            runs,
+            child,
+            v,
+            b,
+            dom,
+            keep,
+        )
     }
 }
 
@@ -88,7 +107,7 @@ fn some(
 fn some_flat(
     file: &[u8],
     first: usize,
-    flats: &[u8],
+    heights: &[u8],
     frees: &[u8],
     table: &[u64],
     runs: usize,
@@ -97,23 +116,23 @@ fn some_flat(
     b: Bindings,
     dom: RunSet,
 ) -> RunSet
-    requires { ⌜ Ready (now file) first (now flats) (now frees) (now table) runs child b ⌝ }
+    requires { ⌜ Ready (now file) first (now heights) (now frees) (now table) runs child b ⌝ }
     requires { ⌜ v < 4 ⌝ }
-    requires { ⌜ (getD (now flats) child 0 ≡ 1) × Fixed (binding b) ⌝ }
+    requires { ⌜ (getD (now heights) child 0 ≡ 0) × Fixed (binding b) ⌝ }
     ensures { λ r. ⌜ ((M : Model) → RowsOf (now (table .entry)) (now (file .entry)) runs M
         → TrueAt M (exists v (formulaAt (now (file .entry)) first child)) (binding b) dom r) ⌝ }
 {
     let each = rebound(b, v, Rank(EACH as u8));
     let all = sets::below(runs);
-    let found = times(file, first, flats, frees, table, runs, child, each, all);
+    let found = times(file, first, heights, frees, table, runs, child, each, all);
     sets::meet(dom, sets::upward(found))
 }
 
-// The same for any node: run after run, from each run's own moment on, as long as moments are left.
+// The same for any node, where no run outside keep serves: run after run, from each run's own moment on, as long as moments are left.
 fn some_loop(
     file: &[u8],
     first: usize,
-    flats: &[u8],
+    heights: &[u8],
     frees: &[u8],
     table: &[u64],
     runs: usize,
@@ -121,20 +140,21 @@ fn some_loop(
     v: usize,
     b: Bindings,
     dom: RunSet,
+    keep: RunSet,
 ) -> RunSet
-    requires { ⌜ Ready (now file) first (now flats) (now frees) (now table) runs child b ⌝ }
+    requires { ⌜ Ready (now file) first (now heights) (now frees) (now table) runs child b ⌝ }
     requires { ⌜ v < 4 ⌝ }
     ensures { λ r. ⌜ ((M : Model) → RowsOf (now (table .entry)) (now (file .entry)) runs M
+        → FalseWithout M (formulaAt (now (file .entry)) first child) (binding b) v keep
         → TrueAt M (exists v (formulaAt (now (file .entry)) first child)) (binding b) dom r) ⌝ }
 {
-    let keep = kept(file, first, flats, frees, table, runs, child, v, b);
     let mut got = sets::empty();
     let mut r: usize = 0;
     while r < runs {
         let left = left_of(dom, got, keep, r);
         if !sets::none(left) {
             let at_r = rebound(b, v, Rank(r as u8));
-            let found = times(file, first, flats, frees, table, runs, child, at_r, left);
+            let found = times(file, first, heights, frees, table, runs, child, at_r, left);
             got = sets::join(got, found);
         }
         r += 1;
@@ -146,7 +166,7 @@ fn some_loop(
 fn opened(
     file: &[u8],
     first: usize,
-    flats: &[u8],
+    heights: &[u8],
     frees: &[u8],
     table: &[u64],
     runs: usize,
@@ -155,20 +175,20 @@ fn opened(
     dom: RunSet,
     any: u8,
 ) -> RunSet
-    requires { ⌜ Ready (now file) first (now flats) (now frees) (now table) runs node b ⌝ }
+    requires { ⌜ Ready (now file) first (now heights) (now frees) (now table) runs node b ⌝ }
     ensures { λ r. ⌜ ((M : Model) → RowsOf (now (table .entry)) (now (file .entry)) runs M
         → Keeps M (binding b) (formulaAt (now (file .entry)) first node) (bit any) dom r) ⌝ }
 {
     let x = node_at(file, first, node);
     let kind = x.kind;
     if kind == 1 {
-        let l = opened(file, first, flats, frees, table, runs, x.a, b, dom, any);
-        opened(file, first, flats, frees, table, runs, x.b, b, l, any)
+        let l = opened(file, first, heights, frees, table, runs, x.a, b, dom, any);
+        opened(file, first, heights, frees, table, runs, x.b, b, l, any)
     } else if kind == 3 {
         let more = marked(any, x.a);
-        opened(file, first, flats, frees, table, runs, x.b, b, dom, more)
-    } else if closed(flats, frees, node, any) {
-        times(file, first, flats, frees, table, runs, node, b, dom)
+        opened(file, first, heights, frees, table, runs, x.b, b, dom, more)
+    } else if closed(heights, frees, node, any) {
+        times(file, first, heights, frees, table, runs, node, b, dom)
     } else {
         dom
     }
@@ -178,7 +198,7 @@ fn opened(
 fn kept(
     file: &[u8],
     first: usize,
-    flats: &[u8],
+    heights: &[u8],
     frees: &[u8],
     table: &[u64],
     runs: usize,
@@ -186,7 +206,7 @@ fn kept(
     v: usize,
     b: Bindings,
 ) -> RunSet
-    requires { ⌜ Ready (now file) first (now flats) (now frees) (now table) runs child b ⌝ }
+    requires { ⌜ Ready (now file) first (now heights) (now frees) (now table) runs child b ⌝ }
     requires { ⌜ v < 4 ⌝ }
     ensures { λ r. ⌜ ((M : Model) → RowsOf (now (table .entry)) (now (file .entry)) runs M
         → FalseWithout M (formulaAt (now (file .entry)) first child) (binding b) v r) ⌝ }
@@ -194,7 +214,18 @@ fn kept(
     let all = sets::below(runs);
     if fixed(b) {
         let each = rebound(b, v, Rank(EACH as u8));
-        opened(file, first, flats, frees, table, runs, child, each, all, 0)
+        opened(
+            file,
+            first,
+            heights,
+            frees,
+            table,
+            runs,
+            child,
+            each,
+            all,
+            0,
+        )
     } else {
         all
     }

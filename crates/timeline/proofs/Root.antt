@@ -11,29 +11,22 @@ use Rattle.sets.specs.Sets.{mem}
 use Rattle.sets.specs.declared.RunSet.{RunSet}
 use Rattle.rules.specs.declared.Rule.{Rule}
 use Rattle.rules.specs.Formula.{Formula, noScope, scoped}
-use Rattle.rules.specs.Table.{formulaAt}
 use Rattle.rules.specs.Rules.{Taken}
 use Rattle.logic.specs.Satisfies.{Binding}
 use Rattle.logic.specs.Model.{Model}
 use Rattle.logic.proofs.Closed.{eval-closed}
-use Rattle.shape.specs.Shape.{flat?}
-use Rattle.shape.specs.Tables.{FlatFlag, FreeMask, TableOf}
+use Rattle.shape.specs.Tables.{Height, FreeMask, TableOf}
 use Rattle.moments.specs.declared.Bindings.{Bindings}
 use Rattle.moments.specs.Truth.{atMoment, truth, at, TrueAt}
-use Rattle.moments.specs.Shape.{Flats, Frees}
+use Rattle.moments.specs.Shape.{Heights, Frees}
 use Rattle.moments.specs.Rows.{pairOf, RowsOf}
 use Rattle.moments.specs.Ready.{rank, InRange, tableWords, Ready}
 use Rattle.rows.proofs.Stored.{new-row}
 use Rattle.timeline.specs.Root.{noRuns, Shaped, TrueAmong}
 
 -- ── the tables of shapes ──
-flag-plain : (b : Bool) → cond {A = ℕ} b 1 0 ≡ 1 → b ≡ true
-flag-plain true e = refl
-flag-plain false e = absurd (omega arith)
-
-pub flats-at-root : (file : List ℕ) (p count n : ℕ) (flats : List ℕ) → TableOf FlatFlag file p count flats → n < count → n < length flats → Flats file p n flats
-flats-at-root file p count n flats t l long =
-    record { long = long; plain = λ i h e. flag-plain (flat? (formulaAt file p i)) (sym (t .nodes i (omega arith)) ∙ e) }
+pub heights-at-root : (file : List ℕ) (p count n : ℕ) (heights : List ℕ) → TableOf Height file p count heights → n < count → n < length heights → Heights file p n heights
+heights-at-root file p count n heights t l long = record { long = long; high = λ i h. t .nodes i (omega arith) }
 
 pub frees-at-root : (file : List ℕ) (p count n : ℕ) (frees : List ℕ) → TableOf FreeMask file p count frees → n < count → n < length frees → Frees file p n frees
 frees-at-root file p count n frees t l long = record { long = long; free = λ i h v e. t .nodes i (omega arith) v ∙ e }
@@ -50,14 +43,14 @@ zeros-in-range (suc (suc zero)) = omega arith
 zeros-in-range (suc (suc (suc zero))) = omega arith
 zeros-in-range (suc (suc (suc (suc v)))) = omega arith
 
-pub root-ready : (file : List ℕ) (x : Rule) (flats frees table : List ℕ) (runs : ℕ) → Taken file x → Shaped file x flats frees
-    → tableWords ≤ length table → runs ≤ 128 → Ready file (x .nodes) flats frees table runs (x .count - 1) fromZero
-root-ready file x flats frees table runs t s long few =
+pub root-ready : (file : List ℕ) (x : Rule) (heights frees table : List ℕ) (runs : ℕ) → Taken file x → Shaped file x heights frees
+    → tableWords ≤ length table → runs ≤ 128 → Ready file (x .nodes) heights frees table runs (x .count - 1) fromZero
+root-ready file x heights frees table runs t s long few =
     let some = t .nodes-some in
     let most = t .nodes-few in
     record {
       good = t .nodes-good;
-      flats-are = flats-at-root file (x .nodes) (x .count) (x .count - 1) flats (s .flats-are) (omega arith) (omega (arith, s .flats-long));
+      heights-are = heights-at-root file (x .nodes) (x .count) (x .count - 1) heights (s .heights-are) (omega arith) (omega (arith, s .heights-long));
       frees-are = frees-at-root file (x .nodes) (x .count) (x .count - 1) frees (s .frees-are) (omega arith) (omega (arith, s .frees-long));
       table-long = long;
       labels-few = omega (arith, t .labels, t .labels-few);

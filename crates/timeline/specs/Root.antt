@@ -21,7 +21,7 @@ use Rattle.logic.specs.Shown.{numberFor}
 use Rattle.order.specs.declared.Order.{Order}
 use Rattle.order.specs.Order.{orderTo}
 use Rattle.order.specs.Marks.{Holds}
-use Rattle.shape.specs.Tables.{FlatFlag, FreeMask, TableOf}
+use Rattle.shape.specs.Tables.{Height, FreeMask, TableOf}
 use Rattle.moments.specs.Truth.{truth}
 use Rattle.rows.specs.RankModel.{rankModel}
 
@@ -29,11 +29,11 @@ use Rattle.rows.specs.RankModel.{rankModel}
 abbrev pub noRuns : Model
 noRuns = record { runs = 0; done = λ _. false; labelled = λ _ _. false; relates = λ _ _ _. false; alike = λ _ _. false }
 
--- the tables of a rule's nodes: which have no "some", and which variables stand free in each
-pub record Shaped (file : List ℕ) (x : Rule) (flats frees : List ℕ) : Type 0 where
-  pub flats-are : TableOf FlatFlag file (x .nodes) (x .count) flats
+-- the tables of a rule's nodes: how many "some" lie one inside another in each, and which variables stand free in it
+pub record Shaped (file : List ℕ) (x : Rule) (heights frees : List ℕ) : Type 0 where
+  pub heights-are : TableOf Height file (x .nodes) (x .count) heights
   pub frees-are : TableOf FreeMask file (x .nodes) (x .count) frees
-  pub flats-long : maxNodes ≤ length flats
+  pub heights-long : maxNodes ≤ length heights
   pub frees-long : maxNodes ≤ length frees
 
 -- s has of the first n moments those at which f is true, whatever the binding

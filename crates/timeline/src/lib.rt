@@ -41,14 +41,14 @@ pub struct Timeline {
 fn true_moments(
     file: &[u8],
     rule: Rule,
-    flats: &[u8],
+    heights: &[u8],
     frees: &[u8],
     table: &[u64],
     runs: usize,
     count: usize,
 ) -> RunSet
     requires { ⌜ Taken (now file) rule ⌝ }
-    requires { ⌜ Shaped (now file) rule (now flats) (now frees) ⌝ }
+    requires { ⌜ Shaped (now file) rule (now heights) (now frees) ⌝ }
     requires { ⌜ (2184 ≤ length (now table)) × (runs ≤ 128) × (count ≤ 128) ⌝ }
     ensures { λ s. ⌜ ((M : Model) → RowsOf (now (table .entry)) (now (file .entry)) runs M
         → TrueAmong M (formulaOf (now (file .entry)) rule) count s) ⌝ }
@@ -56,17 +56,27 @@ fn true_moments(
     let none = Bindings { run: [Rank(0); 4] };
     let root = rule.count - 1;
     let dom = sets::below(count);
-    moments::times::times(file, rule.nodes, flats, frees, table, runs, root, none, dom)
+    moments::times::times(
+        file,
+        rule.nodes,
+        heights,
+        frees,
+        table,
+        runs,
+        root,
+        none,
+        dom,
+    )
 }
 
 // Whether the rule of a file is true before any run is finished.
-fn before_first(file: &[u8], rule: Rule, flats: &[u8], frees: &[u8]) -> bool
+fn before_first(file: &[u8], rule: Rule, heights: &[u8], frees: &[u8]) -> bool
     requires { ⌜ Taken (now file) rule ⌝ }
-    requires { ⌜ Shaped (now file) rule (now flats) (now frees) ⌝ }
+    requires { ⌜ Shaped (now file) rule (now heights) (now frees) ⌝ }
     ensures { λ b. ⌜ b ≡ truth noRuns (formulaOf (now (file .entry)) rule) (λ _. 0) 0 ⌝ }
 {
     let table = [0u64; TABLE_WORDS];
-    let s = true_moments(file, rule, flats, frees, &table, 0, 1);
+    let s = true_moments(file, rule, heights, frees, &table, 0, 1);
     sets::has(s, 0)
 }
 
@@ -74,20 +84,20 @@ fn before_first(file: &[u8], rule: Rule, flats: &[u8], frees: &[u8]) -> bool
 fn ranked_moments(
     file: &[u8],
     rule: Rule,
-    flats: &[u8],
+    heights: &[u8],
     frees: &[u8],
     wanted: &[u8],
     t: RunTable,
     o: Order,
 ) -> RunSet
     requires { ⌜ Taken (now file) rule ⌝ }
-    requires { ⌜ Shaped (now file) rule (now flats) (now frees) ⌝ }
+    requires { ⌜ Shaped (now file) rule (now heights) (now frees) ⌝ }
     requires { ⌜ OrderFits t o × Wanted (now wanted) (rule .labels) ⌝ }
     ensures { λ s. ⌜ TrueOfRanks (now (file .entry)) rule (now (wanted .entry)) t o s ⌝ }
 {
     let mut table = [0u64; TABLE_WORDS];
     rows::fill_rows(t, o, wanted, rule.labels, &mut table);
-    true_moments(file, rule, flats, frees, &table, o.count, o.count)
+    true_moments(file, rule, heights, frees, &table, o.count, o.count)
 }
 
 // Judges all lines of the log that left a record.
@@ -100,11 +110,11 @@ pub fn judge_all(file: &[u8], rule: Rule, r: Record) -> Timeline
     let labels = r.labels;
     let lines = r.lines.0 as usize;
     let o = order::finish_order(runs, lines);
-    let flats = shape::flat_nodes(file, rule.nodes, rule.count);
+    let heights = shape::heights(file, rule.nodes, rule.count);
     let frees = shape::free_variables(file, rule.nodes, rule.count);
     let wanted = logic::shown::wanted_numbers(file, rule.labels, labels);
-    let first = before_first(file, rule, &flats, &frees);
-    let moments = ranked_moments(file, rule, &flats, &frees, &wanted, runs, o);
+    let first = before_first(file, rule, &heights, &frees);
+    let moments = ranked_moments(file, rule, &heights, &frees, &wanted, runs, o);
     let done = o.done;
     Timeline {
         moments: moments,

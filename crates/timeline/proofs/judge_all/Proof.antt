@@ -14,8 +14,8 @@ cast-lines c = search needs
 finish-order-requires : tie.Need-finish-order-requires
 finish-order-requires c κs = let s = c .before .before .before .before in ends-fit (s .args .r) (s .pre .1)
 
-flat-nodes-requires : tie.Need-flat-nodes-requires
-flat-nodes-requires c κs = search needs
+heights-requires : tie.Need-heights-requires
+heights-requires c κs = search needs
 
 free-variables-requires : tie.Need-free-variables-requires
 free-variables-requires c κs = search needs
@@ -34,13 +34,13 @@ slice-aggregate-before-first-2 c = search needs
 before-first-requires : tie.Need-before-first-requires
 before-first-requires c κs =
     let s = c .before .before .before .before .before .before .before .before .before .before in
-    let flats : length (c .before .before .before .before .flat-nodes .result) ≡ 64 = search needs in
+    let heights : length (c .before .before .before .before .heights .result) ≡ 64 = search needs in
     let frees : length (c .before .before .before .free-variables .result) ≡ 64 = search needs in (
       s .pre .0,
       record {
-        flats-are = c .before .before .before .before .flat-nodes .ensures;
+        heights-are = c .before .before .before .before .heights .ensures;
         frees-are = c .before .before .before .free-variables .ensures;
-        flats-long = omega arith;
+        heights-long = omega arith;
         frees-long = omega arith;
       },
     )
@@ -80,7 +80,7 @@ judge-all-spec =
     (tie.spec
     cast-lines
     finish-order-requires
-    flat-nodes-requires
+    heights-requires
     free-variables-requires
     wanted-numbers-requires
     slice-aggregate-before-first

@@ -1,5 +1,4 @@
--- The element at v is the rank, and each is at most the mark.
-use native.Mathlib.Omega.{arith}
+-- The element at v is the rank.
 use borrow.Author.Needs.{needs}
 use Rattle.moments.proofs.ranks.bound.Statement.{statement}
 use Rattle.moments.proofs.ranks.bound.Tie as tie
@@ -11,7 +10,7 @@ cast-result : tie.Need-cast-result
 cast-result c = search needs
 
 returns : tie.Need-returns
-returns c = (search needs, omega (arith, c .before .before .pre .1 (c .before .before .args .v)))
+returns c = search needs
 
 pub bound-spec : {M : Type 1} → statement M
 bound-spec = tie.close (tie.spec element-copy-out-r cast-result returns)

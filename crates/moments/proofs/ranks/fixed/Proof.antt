@@ -4,6 +4,7 @@ use mathlib.Core.Path.{_≡_}
 use native.Mathlib.Omega.{arith}
 use native.Mathlib.Nat.{not-suc-le-zero}
 use lib.ListN.{length}
+use borrow.Author.Needs.{needs}
 use borrow.Author.Count.{below-more}
 use Rattle.lists.proofs.Lists.{unmapped}
 use Rattle.lists.proofs.Tells.{tell-no, tell-yes}
@@ -22,7 +23,7 @@ loop-holds : tie.Need-loop-holds Inv-loop μ-loop
 loop-holds c = (omega arith, λ k l. absurd (not-suc-le-zero l))
 
 bound-requires : tie.Need-bound-requires Inv-loop μ-loop
-bound-requires c κs = (omega arith, c .before .before .pre)
+bound-requires c κs = search needs
 
 returns : tie.Need-returns Inv-loop μ-loop
 returns c =
@@ -41,6 +42,7 @@ loop-again c =
     let b = c .before .before .before .before .args .b in
     let e = c .before .bound .ensures in
     let n = c .if1 .left in
+    let most = c .before .before .before .before .pre (c .before .before .before .loop .v) in
     (omega arith, below-more _ _ (c .before .before .before .loop .inv .1) (omega arith))
 
 returns-2 : tie.Need-returns-2 Inv-loop μ-loop

@@ -1,23 +1,25 @@
 -- The evaluator. Each call goes to a smaller node or, at one node, on to the next function in the order some, some_loop, kept,
--- opened or some_flat, times. A node's moments are those of its formula if its children's are theirs; the loop of "some" has tried the
+-- opened or some_flat, times; the search by rows is no part of the cycle. A node's moments are those of its formula if its children's are theirs; the loop of "some" has tried the
 -- runs below r, and each moment of dom at which one of them serves is in got.
 use Prim.Native.Nat.{_≤_, _+_, _*_, _-_}
-use mathlib.Core.Path.{sym, subst}
+use mathlib.Core.Path.{sym, subst, ap, _∙_}
+use mathlib.Core.Bool.{Bool, _&&_}
 use mathlib.Core.Logic.{⊎-elim}
 use native.Mathlib.Omega.{arith}
 use borrow.Author.Needs.{needs}
 use borrow.Author.Tests.{not-false}
-use Rattle.sets.specs.Sets.{bit}
+use Rattle.sets.specs.Sets.{bit, mem}
 use Rattle.sets.specs.declared.RunSet.{RunSet}
 use Rattle.rules.specs.Table.{formulaAt}
 use Rattle.rules.proofs.Formulas.{good-room, some-variable, atom-fields}
 use Rattle.logic.specs.Model.{Model}
+use Rattle.moments.specs.Truth.{FalseWithout}
 use Rattle.moments.specs.Rows.{RowsOf}
 use Rattle.moments.specs.Ready.{binding}
 use Rattle.moments.proofs.Nodes.{moments-and, moments-and-none, moments-not, moments-some, moments-atom}
 use Rattle.moments.proofs.Tried.{Tried, tried-none, tried-more, tried-skip, tried-all, some-at-once}
 use Rattle.moments.proofs.Open.{keep-all, keeps-and, keeps-some, keeps-flat, dropped-false, none-dropped}
-use Rattle.moments.proofs.Ready.{left-ready, right-ready, not-ready, some-ready, atom-ready, rebound-ready, all-finished}
+use Rattle.moments.proofs.Ready.{left-ready, right-ready, not-ready, some-ready, atom-ready, rebound-ready, rows-ready, all-finished}
 use Prim.Native.Nat.{ℕ, _<_}
 use borrow.Fn.Kinds.{In}
 use borrow.Fn.PlainCycle.{Measures, is, falls, and}
@@ -39,13 +41,15 @@ use Rattle.moments.proofs.times.+kept+opened+some+some_flat+some_loop+t
 use Rattle.moments.proofs.times.times.Reads as times
 use Rattle.moments.proofs.times.times.Kinds as times-kinds
 use Rattle.moments.proofs.times.+kept+opened+some+some_flat+some_loop+times.Lts-times as times-lts
+use Rattle.moments.proofs.keep.some_rows.Reads as some-rows-reads
 use Rattle.moments.proofs.ranks.fixed.Reads as fixed-reads
 use Rattle.moments.proofs.ranks.rebound.Reads as rebound-reads
-use Rattle.moments.proofs.rows.atom_set.Reads as atom-set-reads
+use Rattle.moments.proofs.table.atom_set.Reads as atom-set-reads
 use Rattle.moments.proofs.search.closed.Reads as closed-reads
 use Rattle.moments.proofs.search.left_of.Reads as left-of-reads
 use Rattle.moments.proofs.search.marked.Reads as marked-reads
-use Rattle.moments.proofs.search.short.Reads as short-reads
+use Rattle.moments.proofs.search.unmarked_height.Reads as unmarked-height-reads
+use Rattle.moments.proofs.search.by_rows.Reads as by-rows-reads
 use Rattle.rules.proofs.table.node_at.Reads as node-at-reads
 use Rattle.sets.proofs.below.Reads as below-reads
 use Rattle.sets.proofs.empty.Reads as empty-reads
@@ -120,13 +124,13 @@ abbrev opened-calls : ℕ → opened-lts.Claims
 opened-calls t = (node-at-reads.Asked, node-at-reads.Learnt, opened-below t, opened.Post, marked-reads.Asked, marked-reads.Learnt, closed-reads.Asked, closed-reads.Learnt, times-below t, times.Post)
 
 abbrev some-calls : ℕ → some-lts.Claims
-some-calls t = (short-reads.Asked, short-reads.Learnt, some-flat-below t, some-flat.Post, some-loop-below t, some-loop.Post)
+some-calls t = (unmarked-height-reads.Asked, unmarked-height-reads.Learnt, some-flat-below t, some-flat.Post, kept-below t, kept.Post, by-rows-reads.Asked, by-rows-reads.Learnt, some-rows-reads.Asked, some-rows-reads.Learnt, some-loop-below t, some-loop.Post)
 
 abbrev some-flat-calls : ℕ → some-flat-lts.Claims
 some-flat-calls t = (rebound-reads.Asked, rebound-reads.Learnt, below-reads.Asked, below-reads.Learnt, times-below t, times.Post, upward-reads.Asked, upward-reads.Learnt, meet-reads.Asked, meet-reads.Learnt)
 
 abbrev some-loop-calls : ℕ → some-loop-lts.Claims
-some-loop-calls t = (kept-below t, kept.Post, empty-reads.Asked, empty-reads.Learnt, left-of-reads.Asked, left-of-reads.Learnt, none-reads.Asked, none-reads.Learnt, rebound-reads.Asked, rebound-reads.Learnt, times-below t, times.Post, join-reads.Asked, join-reads.Learnt)
+some-loop-calls t = (empty-reads.Asked, empty-reads.Learnt, left-of-reads.Asked, left-of-reads.Learnt, none-reads.Asked, none-reads.Learnt, rebound-reads.Asked, rebound-reads.Learnt, times-below t, times.Post, join-reads.Asked, join-reads.Learnt)
 
 abbrev times-calls : ℕ → times-lts.Claims
 times-calls t = (node-at-reads.Asked, node-at-reads.Learnt, times-below t, times.Post, none-reads.Asked, none-reads.Learnt, minus-reads.Asked, minus-reads.Learnt, some-below t, some.Post, atom-set-reads.Asked, atom-set-reads.Learnt, meet-reads.Asked, meet-reads.Learnt)
@@ -198,7 +202,7 @@ opened-opened-requires-3 t c κs =
     (omega (arith, q .0, s .pre .0), q .1)
 
 opened-closed-requires : (t : ℕ) → opened-lts.Need-closed-requires (opened-calls t) (opened-at t) opened.Post
-opened-closed-requires t c κs = let s = c .before .before .before .before .before .before .before in (s .pre .1 .flats-are .long, s .pre .1 .frees-are .long)
+opened-closed-requires t c κs = let s = c .before .before .before .before .before .before .before in (s .pre .1 .heights-are .long, s .pre .1 .frees-are .long)
 
 opened-times-requires : (t : ℕ) → opened-lts.Need-times-requires (opened-calls t) (opened-at t) opened.Post
 opened-times-requires t c κs = let s = c .before .before .before .before .before .before .before .before .before in (omega (arith, s .pre .0), s .pre .1)
@@ -222,7 +226,7 @@ opened-returns-3 t c =
     let s = c .before .before .before .before .before .before .before .before .before .before in
     let a = s .args in
     λ M rows.
-    keeps-flat M (binding (a .b)) (a .file .now) (a .first) (a .node) (a .flats .now) (a .frees .now) (a .any) (a .dom) _ (s .pre .1 .flats-are) (s .pre .1 .frees-are)
+    keeps-flat M (binding (a .b)) (a .file .now) (a .first) (a .node) (a .heights .now) (a .frees .now) (a .any) (a .dom) _ (s .pre .1 .heights-are) (s .pre .1 .frees-are)
     (c .before .before .closed .ensures .yes (c .before .if3 .taken)) (c .times .ensures M rows)
 
 opened-returns-4 : (t : ℕ) → opened-lts.Need-returns-4 (opened-calls t) (opened-at t) opened.Post
@@ -231,20 +235,40 @@ opened-returns-4 t c =
     let a = s .args in
     λ M rows. keep-all M (binding (a .b)) _ (bit (a .any)) (a .dom)
 
-some-short-requires : (t : ℕ) → some-lts.Need-short-requires (some-calls t) (some-at t) some.Post
-some-short-requires t c κs = let s = c .before .before .before .before in (s .pre .1 .0 .flats-are .long, s .pre .1 .0 .in-range)
+some-unmarked-height-requires : (t : ℕ) → some-lts.Need-unmarked-height-requires (some-calls t) (some-at t) some.Post
+some-unmarked-height-requires t c κs = let s = c .before .before .before .before in (s .pre .1 .0 .heights-are .long, s .pre .1 .0 .in-range)
 
 some-some-flat-requires : (t : ℕ) → some-lts.Need-some-flat-requires (some-calls t) (some-at t) some.Post
-some-some-flat-requires t c κs = let s = c .before .before .before .before .before .before in (omega (arith, s .pre .0), (s .pre .1 .0, (s .pre .1 .1, c .before .short .ensures .yes (c .if1 .taken))))
-
-some-some-loop-requires : (t : ℕ) → some-lts.Need-some-loop-requires (some-calls t) (some-at t) some.Post
-some-some-loop-requires t c κs = let s = c .before .before .before .before .before .before in (omega (arith, s .pre .0), s .pre .1)
+some-some-flat-requires t c κs =
+    let s = c .before .before .before .before .before .before in
+    let e = c .if1 .taken in
+    let q = c .before .unmarked-height .ensures (omega arith) in
+    (omega (arith, s .pre .0), (s .pre .1 .0, (s .pre .1 .1, (q .0 ∙ e, q .1))))
 
 some-returns : (t : ℕ) → some-lts.Need-returns (some-calls t) (some-at t) some.Post
 some-returns t c = c .some-flat .ensures
 
+some-kept-requires : (t : ℕ) → some-lts.Need-kept-requires (some-calls t) (some-at t) some.Post
+some-kept-requires t c κs = let s = c .before .before .before .before .before .before in (omega (arith, s .pre .0), s .pre .1)
+
+some-by-rows-requires : (t : ℕ) → some-lts.Need-by-rows-requires (some-calls t) (some-at t) some.Post
+some-by-rows-requires t c κs = search needs
+
+some-some-rows-requires : (t : ℕ) → some-lts.Need-some-rows-requires (some-calls t) (some-at t) some.Post
+some-some-rows-requires t c κs =
+    let s = c .before .before .before .before .before .before .before .before .before in
+    let e = c .before .by-rows .ensures (c .if2 .taken) in
+    let q = c .before .before .before .before .unmarked-height .ensures (omega arith) in
+    (rows-ready _ _ _ _ _ _ _ _ (s .pre .1 .0) (q .0 ∙ e) (q .1), q .1, s .pre .1 .1)
+
+some-some-loop-requires : (t : ℕ) → some-lts.Need-some-loop-requires (some-calls t) (some-at t) some.Post
+some-some-loop-requires t c κs = let s = c .before .before .before .before .before .before .before .before .before in (omega (arith, s .pre .0), s .pre .1)
+
 some-returns-2 : (t : ℕ) → some-lts.Need-returns-2 (some-calls t) (some-at t) some.Post
-some-returns-2 t c = c .some-loop .ensures
+some-returns-2 t c = λ M rows. c .some-rows .ensures M rows (c .before .before .before .kept .ensures M rows)
+
+some-returns-3 : (t : ℕ) → some-lts.Need-returns-3 (some-calls t) (some-at t) some.Post
+some-returns-3 t c = λ M rows. c .some-loop .ensures M rows (c .before .before .before .kept .ensures M rows)
 
 some-flat-cast-t14 : (t : ℕ) → some-flat-lts.Need-cast-t14 (some-flat-calls t) (some-flat-at t) some-flat.Post
 some-flat-cast-t14 t c = omega arith
@@ -275,43 +299,41 @@ some-flat-returns t c =
     let q = s .pre .1 .1 .1 in
     let e = c .before .before .before .before .rebound in
     λ M rows.
-    some-at-once M (formulaAt (a .file .now) (a .first) (a .child)) (binding (a .b)) (binding (e .result)) (a .v) (a .dom) _ _ _ _ (q .1) (s .pre .1 .0 .flats-are .plain (a .child) (omega arith) (q .0)) (e .ensures)
-    (all-finished (a .table .now) (a .file .now) (a .runs) M _ rows (c .before .before .before .below .ensures)) (c .before .before .times .ensures M rows) (c .before .upward .ensures) (c .meet .ensures)
+    some-at-once M (formulaAt (a .file .now) (a .first) (a .child)) (binding (a .b)) (binding (e .result)) (a .v) (a .dom) _ _ _ (q .1) (sym (s .pre .1 .0 .heights-are .high (a .child) (omega arith)) ∙ q .0) (e .ensures)
+    (all-finished (a .table .now) (a .file .now) (a .runs) M _ rows (c .before .before .before .below .ensures)) (c .before .before .times .ensures M rows)
+    (λ j l. c .meet .ensures j ∙ ap (λ (y : Bool). mem (a .dom) j && y) (c .before .upward .ensures j l))
 
 abbrev some-loop-Inv-loop : some-loop-lts.InvT-loop
-some-loop-Inv-loop file first flats frees table runs child v b dom keep got₀ r₀ got r =
-    (r ≤ runs) × ((M : Model) → RowsOf table file runs M → Tried M (formulaAt file first child) (binding b) v dom got r)
+some-loop-Inv-loop file first heights frees table runs child v b dom keep got₀ r₀ got r =
+    (r ≤ runs) × ((M : Model) → RowsOf table file runs M → FalseWithout M (formulaAt file first child) (binding b) v keep → Tried M (formulaAt file first child) (binding b) v dom got r)
 
 abbrev some-loop-μ-loop : some-loop-lts.MeasureT-loop
-some-loop-μ-loop file first flats frees table runs child v b dom keep got₀ r₀ got r = runs - r
-
-some-loop-kept-requires : (t : ℕ) → some-loop-lts.Need-kept-requires (some-loop-calls t) (some-loop-at t) some-loop.Post some-loop-Inv-loop some-loop-μ-loop
-some-loop-kept-requires t c κs = let s = c .before .before .before .before in (omega (arith, s .pre .0), s .pre .1)
+some-loop-μ-loop file first heights frees table runs child v b dom keep got₀ r₀ got r = runs - r
 
 some-loop-empty-requires : (t : ℕ) → some-loop-lts.Need-empty-requires (some-loop-calls t) (some-loop-at t) some-loop.Post some-loop-Inv-loop some-loop-μ-loop
 some-loop-empty-requires t c κs = search needs
 
 some-loop-loop-holds : (t : ℕ) → some-loop-lts.Need-loop-holds (some-loop-calls t) (some-loop-at t) some-loop.Post some-loop-Inv-loop some-loop-μ-loop
 some-loop-loop-holds t c =
-    let s = c .before .before .before .before .before .before in
+    let s = c .before .before .before .before .before in
     let a = s .args in
-    (omega arith, λ M rows. tried-none M (formulaAt (a .file .now) (a .first) (a .child)) (binding (a .b)) (a .v) (a .dom) _ (c .empty .ensures))
+    (omega arith, λ M rows dropped. tried-none M (formulaAt (a .file .now) (a .first) (a .child)) (binding (a .b)) (a .v) (a .dom) _ (c .empty .ensures))
 
 some-loop-left-of-requires : (t : ℕ) → some-loop-lts.Need-left-of-requires (some-loop-calls t) (some-loop-at t) some-loop.Post some-loop-Inv-loop some-loop-μ-loop
-some-loop-left-of-requires t c κs = let s = c .before .before .before .before .before .before .before .before in omega (arith, s .pre .1 .0 .runs-few)
+some-loop-left-of-requires t c κs = let s = c .before .before .before .before .before .before .before in omega (arith, s .pre .1 .0 .runs-few)
 
 some-loop-none-requires : (t : ℕ) → some-loop-lts.Need-none-requires (some-loop-calls t) (some-loop-at t) some-loop.Post some-loop-Inv-loop some-loop-μ-loop
 some-loop-none-requires t c κs = search needs
 
 some-loop-cast-t19 : (t : ℕ) → some-loop-lts.Need-cast-t19 (some-loop-calls t) (some-loop-at t) some-loop.Post some-loop-Inv-loop some-loop-μ-loop
-some-loop-cast-t19 t c = let s = c .before .before .before .before .before .before .before .before .before .before .before in omega (arith, s .pre .1 .0 .runs-few)
+some-loop-cast-t19 t c = let s = c .before .before .before .before .before .before .before .before .before .before in omega (arith, s .pre .1 .0 .runs-few)
 
 some-loop-rebound-requires : (t : ℕ) → some-loop-lts.Need-rebound-requires (some-loop-calls t) (some-loop-at t) some-loop.Post some-loop-Inv-loop some-loop-μ-loop
-some-loop-rebound-requires t c κs = let s = c .before .before .before .before .before .before .before .before .before .before .before in s .pre .1 .1
+some-loop-rebound-requires t c κs = let s = c .before .before .before .before .before .before .before .before .before .before in s .pre .1 .1
 
 some-loop-times-requires : (t : ℕ) → some-loop-lts.Need-times-requires (some-loop-calls t) (some-loop-at t) some-loop.Post some-loop-Inv-loop some-loop-μ-loop
 some-loop-times-requires t c κs =
-    let s = c .before .before .before .before .before .before .before .before .before .before .before .before in
+    let s = c .before .before .before .before .before .before .before .before .before .before .before in
     let a = s .args in
     let r = c .before .before .before .before .before .loop .r in
     let l : r ≤ 128 = omega (arith, s .pre .1 .0 .runs-few) in
@@ -328,16 +350,15 @@ some-loop-loop-less t c = omega arith
 
 some-loop-loop-again : (t : ℕ) → some-loop-lts.Need-loop-again (some-loop-calls t) (some-loop-at t) some-loop.Post some-loop-Inv-loop some-loop-μ-loop
 some-loop-loop-again t c =
-    let s = c .before .before .before .before .before .before .before .before .before .before .before in
+    let s = c .before .before .before .before .before .before .before .before .before .before in
     let a = s .args in
     let r = c .before .before .before .before .loop .r in
     let few = s .pre .1 .0 .runs-few in
     let f = formulaAt (a .file .now) (a .first) (a .child) in (
       omega arith,
-      λ M rows.
+      λ M rows dropped.
           let Next : RunSet → Type 0 = λ g. Tried M f (binding (a .b)) (a .v) (a .dom) g (r + 1) in
-          let old = c .before .before .before .before .loop .inv .1 M rows in
-          let dropped = c .before .before .before .before .before .before .kept .ensures M rows in
+          let old = c .before .before .before .before .loop .inv .1 M rows dropped in
           let left = c .before .before .left-of .ensures in
           let l : r < M .runs = omega (arith, rows .runs-are) in
           ⊎-elim
@@ -348,9 +369,9 @@ some-loop-loop-again t c =
 
 some-loop-returns : (t : ℕ) → some-loop-lts.Need-returns (some-loop-calls t) (some-loop-at t) some-loop.Post some-loop-Inv-loop some-loop-μ-loop
 some-loop-returns t c =
-    let s = c .before .before .before .before .before .before .before .before in
+    let s = c .before .before .before .before .before .before .before in
     let a = s .args in
-    λ M rows. tried-all M (formulaAt (a .file .now) (a .first) (a .child)) (binding (a .b)) (a .v) (a .dom) _ (c .before .loop .r) (omega (arith, rows .runs-are)) (c .before .loop .inv .1 M rows)
+    λ M rows dropped. tried-all M (formulaAt (a .file .now) (a .first) (a .child)) (binding (a .b)) (a .v) (a .dom) _ (c .before .loop .r) (omega (arith, rows .runs-are)) (c .before .loop .inv .1 M rows dropped)
 
 times-node-at-requires : (t : ℕ) → times-lts.Need-node-at-requires (times-calls t) (times-at t) times.Post
 times-node-at-requires t c κs = let s = c .before .before .before .before in good-room _ _ _ (s .pre .1 .good)
@@ -417,7 +438,7 @@ times-returns-3 t c =
     let s = c .before .before .before .before .before .before .before .before .before in
     let a = s .args in
     let x = c .before .before .before .before .node-at in
-    λ M rows. moments-not M (binding (a .b)) _ _ _ (x .result) (x .ensures) (s .pre .1 .good) (a .dom) _ _ (c .before .before .if3 .taken) (c .before .times3 .ensures M rows) (c .minus .ensures)
+    λ M rows. moments-not M (binding (a .b)) _ _ _ (x .result) (x .ensures) (s .pre .1 .good) (a .dom) _ _ (c .before .before .if3 .taken) (c .before .times3 .ensures M rows) (λ j _. c .minus .ensures j)
 
 times-returns-4 : (t : ℕ) → times-lts.Need-returns-4 (times-calls t) (times-at t) times.Post
 times-returns-4 t c =
@@ -432,7 +453,8 @@ times-returns-5 t c =
     let a = s .args in
     let x = c .before .before .before .before .before .node-at in
     let o = atom-fields _ _ _ (x .result) (x .ensures) (s .pre .1 .good) (c .before .before .before .before .if1 .left) (c .before .before .before .if3 .left) (c .before .before .if4 .left) in
-    λ M rows. moments-atom M (binding (a .b)) _ _ _ (x .result) (x .ensures) (s .pre .1 .good) (a .dom) _ _ o (c .before .atom-set .ensures _ _ M rows o) (c .meet .ensures)
+    λ M rows. moments-atom M (binding (a .b)) _ _ _ (x .result) (x .ensures) (s .pre .1 .good) (a .dom) _ o
+    (λ j l. c .meet .ensures j ∙ ap (λ (y : Bool). mem (a .dom) j && y) (c .before .atom-set .ensures _ _ M rows o j l))
 
 pub +kept+opened+some+some-flat+some-loop+times-spec : {M : Type 1} → statement M
 +kept+opened+some+some-flat+some-loop+times-spec =
@@ -463,11 +485,15 @@ pub +kept+opened+some+some-flat+some-loop+times-spec : {M : Type 1} → statemen
     (λ t. some-lts.spec (some-calls t)
     (some-at t)
     some.Post
-    (some-short-requires t)
+    (some-unmarked-height-requires t)
     (some-some-flat-requires t)
-    (some-some-loop-requires t)
     (some-returns t)
-    (some-returns-2 t))
+    (some-kept-requires t)
+    (some-by-rows-requires t)
+    (some-some-rows-requires t)
+    (some-some-loop-requires t)
+    (some-returns-2 t)
+    (some-returns-3 t))
     (λ t. some-flat-lts.spec (some-flat-calls t)
     (some-flat-at t)
     some-flat.Post
@@ -483,7 +509,6 @@ pub +kept+opened+some+some-flat+some-loop+times-spec : {M : Type 1} → statemen
     some-loop.Post
     some-loop-Inv-loop
     some-loop-μ-loop
-    (some-loop-kept-requires t)
     (some-loop-empty-requires t)
     (some-loop-loop-holds t)
     (some-loop-left-of-requires t)

@@ -17,10 +17,10 @@ use rules::Node;
 use sets::RunSet;
 
 // The runs for which the table has rows.
-const MAX_RUNS: usize = 128;
+pub const MAX_RUNS: usize = 128;
 
 // The first row with the second run given.
-const SECOND_GIVEN: usize = 512;
+pub const SECOND_GIVEN: usize = 512;
 
 // The row of the first label.
 const LABELS: usize = 1024;
@@ -29,7 +29,7 @@ const LABELS: usize = 1024;
 const WITH_ITSELF: usize = 1088;
 
 // Row r of the table.
-fn row(table: &[u64], r: usize) -> RunSet
+pub fn row(table: &[u64], r: usize) -> RunSet
     requires { ⌜ 2 * r + 1 < length (now table) ⌝ }
     ensures { λ s. ⌜ s ≡ rowOf (now (table .entry)) r ⌝ }
 {
@@ -51,7 +51,7 @@ fn all(yes: bool) -> RunSet
 }
 
 // The runs j for which run x has the label at place p of the rule file, EACH standing for j.
-fn label_set(table: &[u64], p: usize, x: usize) -> RunSet
+pub fn label_set(table: &[u64], p: usize, x: usize) -> RunSet
     requires { ⌜ 2184 ≤ length (now table) ⌝ }
     requires { ⌜ (p < 64) × (x ≤ 128) ⌝ }
     ensures { λ s. ⌜ ((j : ℕ) → j < 128 → mem s j ≡ mem (rowOf (now (table .entry)) (1024 + p)) (standsFor x j)) ⌝ }
@@ -61,7 +61,7 @@ fn label_set(table: &[u64], p: usize, x: usize) -> RunSet
 }
 
 // The runs j for which relation k holds of x and y, EACH standing for j.
-fn pair_set(table: &[u64], k: usize, x: usize, y: usize) -> RunSet
+pub fn pair_set(table: &[u64], k: usize, x: usize, y: usize) -> RunSet
     requires { ⌜ 2184 ≤ length (now table) ⌝ }
     requires { ⌜ (k < 4) × (x ≤ 128) × (y ≤ 128) ⌝ }
     ensures { λ s. ⌜ ((file : List ℕ) (runs : ℕ) (M : Model) → RowsOf (now (table .entry)) file runs M
@@ -80,7 +80,7 @@ fn pair_set(table: &[u64], k: usize, x: usize, y: usize) -> RunSet
 }
 
 // A byte as a number.
-fn wide(x: u8) -> usize
+pub fn wide(x: u8) -> usize
     ensures { λ r. ⌜ r ≡ x ⌝ }
 {
     x as usize

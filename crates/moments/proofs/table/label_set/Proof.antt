@@ -1,8 +1,8 @@
 -- The label's row is the answer for a marked variable, and one bit of it for a run.
 use Rattle.moments.proofs.Atoms.{label-each, label-one}
 use borrow.Author.Needs.{needs}
-use Rattle.moments.proofs.rows.label_set.Statement.{statement}
-use Rattle.moments.proofs.rows.label_set.Tie as tie
+use Rattle.moments.proofs.table.label_set.Statement.{statement}
+use Rattle.moments.proofs.table.label_set.Tie as tie
 
 add-row : tie.Need-add-row
 add-row c = search needs

@@ -2,8 +2,8 @@
 use mathlib.Core.Path.{sym, _∙_}
 use borrow.Author.Tests.{lt-ltb}
 use borrow.Author.Needs.{needs}
-use Rattle.moments.proofs.rows.all.Statement.{statement}
-use Rattle.moments.proofs.rows.all.Tie as tie
+use Rattle.moments.proofs.table.all.Statement.{statement}
+use Rattle.moments.proofs.table.all.Tie as tie
 
 below-requires : tie.Need-below-requires
 below-requires c κs = search needs

@@ -1,8 +1,8 @@
 -- Four cases, by which of the two variables are marked.
 use Rattle.moments.proofs.Atoms.{pair-both, pair-first, pair-second, pair-one}
 use borrow.Author.Needs.{needs}
-use Rattle.moments.proofs.rows.pair_set.Statement.{statement}
-use Rattle.moments.proofs.rows.pair_set.Tie as tie
+use Rattle.moments.proofs.table.pair_set.Statement.{statement}
+use Rattle.moments.proofs.table.pair_set.Tie as tie
 
 add-row : tie.Need-add-row
 add-row c = search needs

@@ -1,0 +1,172 @@
+// A formula for all runs and all moments at once: a matrix has a row for each run that one variable stands for, and keeps in it the
+// moments at which the formula is true. It serves two "some", one inside the other.
+ghost use mathlib.Core.Path.{_≡_};
+ghost use mathlib.Core.List.{List};
+ghost use Prim.Native.Nat.{ℕ, _+_, _*_, _<_, _≤_};
+ghost use lib.ListN.{length};
+ghost use Rattle.sets.specs.Sets.{mem};
+ghost use Rattle.rules.specs.Formula.{exists};
+ghost use Rattle.rules.specs.Parts.{labelCount};
+ghost use Rattle.rules.specs.Table.{AtomOk, formulaAt};
+ghost use Rattle.logic.specs.Model.{Model};
+ghost use Rattle.moments.specs.Truth.{standsFor, at, Fixed, TrueAt, FalseWithout};
+ghost use Rattle.moments.specs.Rows.{row as rowOf, pairOf, atomOf, RowsOf};
+ghost use Rattle.moments.specs.Matrix.{inRow, rowed, asEach, Rowwise, RowByRow, Narrowed};
+ghost use Rattle.moments.specs.Ready.{binding, RowsReady};
+use crate::Bindings;
+use crate::EACH;
+use crate::Rank;
+use crate::matrix::MATRIX_WORDS;
+use crate::matrix::all_rows;
+use crate::matrix::copy_rows;
+use crate::matrix::meet_each;
+use crate::matrix::meet_rows;
+use crate::matrix::meet_upward;
+use crate::matrix::minus_rows;
+use crate::matrix::no_rows;
+use crate::matrix::pick_rows;
+use crate::matrix::set_each;
+use crate::matrix::start_rows;
+use crate::ranks::bound;
+use crate::ranks::rebound;
+use crate::table::MAX_RUNS;
+use crate::table::SECOND_GIVEN;
+use crate::table::label_set;
+use crate::table::pair_set;
+use crate::table::wide;
+use rules::Node;
+use rules::table::node_at;
+use sets::RunSet;
+
+// The mark of a variable that stands in row k for run k.
+const ROWS: usize = 129;
+
+// The mark for each run in place of the mark for each row.
+fn each_row(x: usize) -> usize
+    requires { ⌜ x ≤ 129 ⌝ }
+    ensures { λ r. ⌜ (r ≡ asEach x) × (r ≤ 128) ⌝ }
+{
+    if x == ROWS { EACH } else { x }
+}
+
+// The rows keep the moments at which the run of x has the label at place p of the rule file.
+fn label_rows(table: &[u64], p: usize, x: usize, runs: usize, m: &mut [u64])
+    requires { ⌜ (2184 ≤ length (now table)) × (runs ≤ 128) × (256 ≤ length (now m)) ⌝ }
+    requires { ⌜ (p < 64) × (x ≤ 129) ⌝ }
+    ensures { λ u. ⌜ (length (now (m .exit)) ≡ length (now (m .entry)))
+        × Rowwise (λ k. Narrowed (λ j. mem (rowOf (now (table .entry)) (1024 + p)) (standsFor (inRow x k) j)))
+        runs (now (m .entry)) (now (m .exit)) ⌝ }
+{
+    if x == ROWS {
+        pick_rows(m, runs, label_set(table, p, EACH));
+    } else {
+        meet_each(m, runs, label_set(table, p, x));
+    }
+}
+
+// The rows keep the moments at which relation r holds of the runs of x and y.
+fn pair_rows(table: &[u64], r: usize, x: usize, y: usize, runs: usize, m: &mut [u64])
+    requires { ⌜ (2184 ≤ length (now table)) × (runs ≤ 128) × (256 ≤ length (now m)) ⌝ }
+    requires { ⌜ (r < 4) × (x ≤ 129) × (y ≤ 129) ⌝ }
+    ensures { λ u. ⌜ (length (now (m .exit)) ≡ length (now (m .entry)))
+        × ((file : List ℕ) (n : ℕ) (M : Model) → RowsOf (now (table .entry)) file n M
+        → Rowwise (λ k. Narrowed (λ j. pairOf M r (standsFor (inRow x k) j) (standsFor (inRow y k) j)))
+        runs (now (m .entry)) (now (m .exit))) ⌝ }
+{
+    if x == ROWS {
+        if y == EACH {
+            meet_rows(m, runs, table, MAX_RUNS * r);
+        } else {
+            pick_rows(m, runs, pair_set(table, r, EACH, each_row(y)));
+        }
+    } else if y == ROWS {
+        if x == EACH {
+            meet_rows(m, runs, table, SECOND_GIVEN + MAX_RUNS * r);
+        } else {
+            pick_rows(m, runs, pair_set(table, r, x, EACH));
+        }
+    } else {
+        meet_each(m, runs, pair_set(table, r, x, y));
+    }
+}
+
+// The rows keep the moments at which a node of kinds 4 to 8 is true.
+fn atom_rows(table: &[u64], x: Node, b: Bindings, runs: usize, m: &mut [u64])
+    requires { ⌜ (2184 ≤ length (now table)) × (runs ≤ 128) × (256 ≤ length (now m)) ⌝ }
+    requires { ⌜ AtomOk 64 x × ((v : ℕ) → binding b v ≤ 129) ⌝ }
+    ensures { λ u. ⌜ (length (now (m .exit)) ≡ length (now (m .entry)))
+        × ((file : List ℕ) (n : ℕ) (M : Model) → RowsOf (now (table .entry)) file n M → AtomOk (labelCount file) x
+        → Rowwise (λ k. Narrowed (λ j. atomOf M file x (at (rowed (binding b) k) j))) runs (now (m .entry)) (now (m .exit))) ⌝ }
+{
+    let kind = x.kind;
+    let second = x.b;
+    let i = bound(b, x.a);
+    if kind == 4 {
+        label_rows(table, second, i, runs, m);
+    } else {
+        pair_rows(table, wide(kind) - 5, i, bound(b, second), runs, m);
+    }
+}
+
+// The rows keep the moments at which the formula of a node is true.
+fn keep_rows(
+    file: &[u8],
+    first: usize,
+    table: &[u64],
+    runs: usize,
+    node: usize,
+    b: Bindings,
+    m: &mut [u64],
+)
+    requires { ⌜ RowsReady (now file) first (now table) runs node b × (256 ≤ length (now m)) ⌝ }
+    ensures { λ u. ⌜ (length (now (m .exit)) ≡ length (now (m .entry)))
+        × ((M : Model) → RowsOf (now (table .entry)) (now (file .entry)) runs M
+        → Rowwise (λ k. TrueAt M (formulaAt (now (file .entry)) first node) (rowed (binding b) k)) runs (now (m .entry)) (now (m .exit))) ⌝ }
+{
+    let x = node_at(file, first, node);
+    let kind = x.kind;
+    if kind == 1 {
+        keep_rows(file, first, table, runs, x.a, b, m);
+        if no_rows(m, runs) {
+            return;
+        }
+        keep_rows(file, first, table, runs, x.b, b, m);
+    } else if kind == 2 {
+        let mut inner = [0u64; MATRIX_WORDS];
+        copy_rows(&mut inner, runs, m);
+        keep_rows(file, first, table, runs, x.a, b, &mut inner);
+        minus_rows(m, runs, &inner);
+    } else if kind == 3 {
+        let mut found = [0u64; MATRIX_WORDS];
+        set_each(&mut found, runs, sets::below(runs));
+        let each = rebound(b, x.a, Rank(EACH as u8));
+        keep_rows(file, first, table, runs, x.b, each, &mut found);
+        meet_upward(m, runs, &found);
+    } else {
+        atom_rows(table, x, b, runs, m);
+    }
+}
+
+// The moments of dom at which the formula of a node is true with variable v at some finished run, where no run outside keep serves.
+pub fn some_rows(
+    file: &[u8],
+    first: usize,
+    table: &[u64],
+    runs: usize,
+    child: usize,
+    v: usize,
+    b: Bindings,
+    dom: RunSet,
+    keep: RunSet,
+) -> RunSet
+    requires { ⌜ RowsReady (now file) first (now table) runs child b × Fixed (binding b) × (v < 4) ⌝ }
+    ensures { λ r. ⌜ ((M : Model) → RowsOf (now (table .entry)) (now (file .entry)) runs M
+        → FalseWithout M (formulaAt (now (file .entry)) first child) (binding b) v keep
+        → TrueAt M (exists v (formulaAt (now (file .entry)) first child)) (binding b) dom r) ⌝ }
+{
+    let mut m = [0u64; MATRIX_WORDS];
+    start_rows(&mut m, runs, dom, keep);
+    let rows = rebound(b, v, Rank(ROWS as u8));
+    keep_rows(file, first, table, runs, child, rows, &mut m);
+    all_rows(&m, runs)
+}

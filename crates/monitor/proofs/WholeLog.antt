@@ -95,7 +95,7 @@ module _ (log w : List ℕ) (a : LogRead) (v : List ℕ) (read : _≡_ {A = LogR
         let first = front-taken (suc k) before noTrace u (taken-first .leave) in
         let t : Trace = first .0 in
         let same : linesOf (flat before) ≡ before = taken-lines before noTrace u (taken-first .leave) in
-        let says = j .says (flat before) u taken-log (taken-first .state) (k + 1) t (omega arith)
+        let says = j .says (flat before) u taken-log (taken-first .state) (k + 1) t (omega arith) (omega arith)
         (ap (λ (ls : List (List ℕ)). steps (next noTrace) (take (k + 1) ls)) same ∙ (ap (λ (n : ℕ). steps (next noTrace) (take n before)) (add-one k) ∙ first .1)) in
         let whole : steps (next noTrace) (take (suc k) (linesOf log)) ≡ next t =
         ap (λ (ls : List (List ℕ)). steps (next noTrace) (take (suc k) ls)) (taken-first .lines)

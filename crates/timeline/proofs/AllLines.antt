@@ -58,8 +58,8 @@ module _ (log : List ℕ) (u : Trace) (a : Accepted log u) where
         (λ h. omega (arith, H .done l h, order-few (u .runs) l, accepted-orderly log u a .runs))
 
     module _ (f : Formula) (closed : scoped f noScope ≡ true) (y : Timeline) (done : y .done ≡ o .done)
-        (moments : TrueAmong (rankModel u) f (o .count) (y .moments)) (before : y .first ≡ truth noRuns f (λ _. 0) 0) where
-      module _ (k : ℕ) (t : Trace) (low : k ≤ u .lines) (first : steps (next noTrace) (take k (linesOf log)) ≡ next t) where
+        (line : ℕ) (moments : TrueAmong (rankModel u) f (getD (o .done) line 0 - 1) (o .count) (y .moments)) (before : y .first ≡ truth noRuns f (λ _. 0) 0) where
+      module _ (k : ℕ) (t : Trace) (from : line ≤ k) (low : k ≤ u .lines) (first : steps (next noTrace) (take k (linesOf log)) ≡ next t) where
         finished-by : getD (y .done) k 0 ≡ length (finishOrder t)
         finished-by =
             ap (λ (x : List ℕ). getD x k 0) done
@@ -70,7 +70,8 @@ module _ (log : List ℕ) (u : Trace) (a : Accepted log u) where
         truth-after (suc m) e =
             let c = first-count log u a k t first in
             let r = order-rises (u .runs) (t .lines) (u .lines) (omega (arith, first-lines k t low first)) in
-            moments m (omega (arith, H .count)) (λ _. 0) ∙ sym (eval-at-moment log u a k t first f (λ _. 0) (λ _. 0) m closed e)
+            let b = order-rises (u .runs) line (t .lines) (omega (arith, first-lines k t low first)) in
+            moments m (omega (arith, H .done line (omega arith))) (omega (arith, H .count)) (λ _. 0) ∙ sym (eval-at-moment log u a k t first f (λ _. 0) (λ _. 0) m closed e)
 
         -- THE LAW: the verdict at line k is that of the first k lines
         pub line-says : Says t f (verdictAt y k)

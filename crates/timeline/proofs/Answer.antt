@@ -1,6 +1,6 @@
 -- From the record of an accepted log to the answer: the record meets what the parts of the evaluation need, and what they promise
 -- together is the verdict of each line.
-use Prim.Native.Nat.{ℕ, _<_, _≤_}
+use Prim.Native.Nat.{ℕ, _-_, _<_, _≤_}
 use mathlib.Core.Path.{_≡_, refl, sym, ap, subst, _∙_}
 use mathlib.Core.Bool.{Bool}
 use mathlib.Core.List.{List}
@@ -28,7 +28,7 @@ use Rattle.rows.specs.Values.{Wanted}
 use Rattle.rows.specs.ByRank.{OrderFits}
 use Rattle.rows.proofs.Meaning.{order-fits, wanted-low}
 use Rattle.timeline.specs.Root.{noRuns, WantedIn, TrueOfRanks}
-use Rattle.timeline.specs.AllLines.{JudgesAll}
+use Rattle.timeline.specs.AllLines.{JudgesFrom}
 use Rattle.timeline.proofs.AllLines.{done-few, line-says}
 
 -- a number for each label of a rule file, as searches in a record find them
@@ -73,14 +73,17 @@ module _ (r : Record) (v : Valid r) where
       }
 
   -- ── what they promise together ──
-  pub judges-all : (file : List ℕ) (x : Rule) (wanted : List ℕ) (o : Order) (first : Bool) (s : RunSet) → Taken file x → Orders (r .runs) (r .lines .0) o
-      → Found file x r wanted → first ≡ truth noRuns (formulaOf file x) (λ _. 0) 0 → TrueOfRanks file x wanted (r .runs) o s
-      → JudgesAll file x r (record { moments = s; first = first; done = o .done })
-  judges-all file x wanted o first s taken h found before ranks =
+  pub done-low : (o : Order) → Orders (r .runs) (r .lines .0) o → (l : ℕ) → getD (o .done) l 0 ≤ 128
+  done-low o h = done-few (v .log) (v .trace) (v .accepted) o (order-holds (v .log) (v .trace) (v .accepted) r (v .encoded) o h)
+
+  pub judges-from : (file : List ℕ) (x : Rule) (line : ℕ) (wanted : List ℕ) (o : Order) (first : Bool) (s : RunSet) → Taken file x
+      → Orders (r .runs) (r .lines .0) o → Found file x r wanted → first ≡ truth noRuns (formulaOf file x) (λ _. 0) 0
+      → TrueOfRanks file x wanted (r .runs) o (getD (o .done) line 0 - 1) s → JudgesFrom file x r line (record { moments = s; first = first; done = o .done })
+  judges-from file x line wanted o first s taken h found before ranks =
       record {
-        fits = done-few (v .log) (v .trace) (v .accepted) o (order-holds (v .log) (v .trace) (v .accepted) r (v .encoded) o h);
+        fits = done-low o h;
         says = λ log u a e.
             let H : Holds (orderTo (u .runs)) (u .lines) o = order-holds log u a r e o h in
-            line-says log u a o H (formulaOf file x) (taken .closed) (record { moments = s; first = first; done = o .done }) refl
+            line-says log u a o H (formulaOf file x) (taken .closed) (record { moments = s; first = first; done = o .done }) refl line
             (ranks log u a (ap (λ (q : Record). q .runs) e) H (wanted-in log u a r e file x wanted taken found)) before;
       }

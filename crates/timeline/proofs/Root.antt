@@ -1,12 +1,12 @@
 -- The root of a taken rule: what the evaluator needs there, from the tables of shapes, and what its answer says of a closed formula.
 use Prim.Native.Nat.{ℕ, zero, suc, _+_, _*_, _-_, _<_, _≤_}
-use mathlib.Core.Path.{_≡_, refl, sym, ap, _∙_}
+use mathlib.Core.Path.{_≡_, refl, sym, ap, ap₂, _∙_}
 use mathlib.Core.Bool.{Bool, true, false, _&&_, cond}
 use mathlib.Core.List.{List, [], _∷_}
 use native.Mathlib.Omega.{arith}
-use lib.Dec.{eqb, ltb}
+use lib.Dec.{eqb, leb, ltb}
 use lib.ListN.{length, replicate}
-use borrow.Author.Tests.{lt-ltb}
+use borrow.Author.Tests.{lt-ltb, le-leb}
 use Rattle.sets.specs.Sets.{mem}
 use Rattle.sets.specs.declared.RunSet.{RunSet}
 use Rattle.rules.specs.declared.Rule.{Rule}
@@ -59,11 +59,14 @@ root-ready file x heights frees table runs t s long few =
     }
 
 -- of a closed formula the moments are the same for every binding
-pub true-among : (M : Model) (f : Formula) (ρ : Binding) (n : ℕ) (dom s : RunSet) → scoped f noScope ≡ true → n ≤ 128
-    → ((j : ℕ) → mem dom j ≡ ltb j n) → TrueAt M f ρ dom s → TrueAmong M f n s
-true-among M f ρ n dom s closed few d h j l σ =
-    h j (omega arith)
-    ∙ (ap (λ (b : Bool). b && truth M f (at ρ j) j) (d j ∙ lt-ltb j n l) ∙ eval-closed (atMoment M j) f (at ρ j) σ closed)
+pub true-among : (M : Model) (f : Formula) (ρ : Binding) (low n : ℕ) (all dom s : RunSet) → scoped f noScope ≡ true → n ≤ 128
+    → ((j : ℕ) → mem all j ≡ ltb j n) → ((j : ℕ) → mem dom j ≡ (mem all j && leb low j)) → TrueAt M f ρ dom s → TrueAmong M f low n s
+true-among M f ρ low n all dom s closed few below from h j k l σ =
+    let in-dom : mem dom j ≡ true = from j ∙ ap₂ _&&_ (below j ∙ lt-ltb j n l) (le-leb low j k) in
+    h j (omega arith) ∙ (ap (λ (b : Bool). b && truth M f (at ρ j) j) in-dom ∙ eval-closed (atMoment M j) f (at ρ j) σ closed)
+
+pub among-from : (M : Model) (f : Formula) (low m n : ℕ) (s : RunSet) → low ≡ m → TrueAmong M f low n s → TrueAmong M f m n s
+among-from M f low m n s e h j k l σ = h j (omega arith) l σ
 
 -- ── a table of zeros ──
 cond-same : (b : Bool) → cond b false false ≡ false

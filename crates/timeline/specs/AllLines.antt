@@ -30,12 +30,16 @@ verdictAt x l = cond (truthAfter (x .first) (x .moments) (getD (x .done) l 0)) H
 abbrev pub FitsRuns : Timeline → Type 0
 FitsRuns x = (l : ℕ) → getD (x .done) l 0 ≤ 128
 
--- What judging all lines at once answers for a rule and the record of an accepted log. "judged by its own bytes and the lines
+-- What judging the lines from one on answers for a rule and the record of an accepted log. "judged by its own bytes and the lines
 -- before it": at each line k it is the verdict of the log's first k lines.
-pub record JudgesAll (file : List ℕ) (x : Rule) (r : Record) (y : Timeline) : Type 0 where
+pub record JudgesFrom (file : List ℕ) (x : Rule) (r : Record) (line : ℕ) (y : Timeline) : Type 0 where
   pub fits : FitsRuns y
-  pub says : (log : List ℕ) (u : Trace) → Accepted log u → r ≡ recordOf u → (k : ℕ) (t : Trace) → k ≤ u .lines
+  pub says : (log : List ℕ) (u : Trace) → Accepted log u → r ≡ recordOf u → (k : ℕ) (t : Trace) → line ≤ k → k ≤ u .lines
       → steps (next noTrace) (take k (linesOf log)) ≡ next t → Says t (formulaOf file x) (verdictAt y k)
+
+-- what judging all lines answers
+abbrev pub JudgesAll : List ℕ → Rule → Record → Timeline → Type 0
+JudgesAll file x r = JudgesFrom file x r 0
 
 -- what judging the last line answers: the verdict of the whole log
 abbrev pub JudgesLast : List ℕ → Rule → Record → Verdict → Type 0

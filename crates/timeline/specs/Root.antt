@@ -36,16 +36,16 @@ pub record Shaped (file : List ℕ) (x : Rule) (heights frees : List ℕ) : Type
   pub heights-long : maxNodes ≤ length heights
   pub frees-long : maxNodes ≤ length frees
 
--- s has of the first n moments those at which f is true, whatever the binding
-abbrev pub TrueAmong : Model → Formula → ℕ → RunSet → Type 0
-TrueAmong M f n s = (j : ℕ) → j < n → (ρ : Binding) → mem s j ≡ truth M f ρ j
+-- s has of the moments from low to below n those at which f is true, whatever the binding
+abbrev pub TrueAmong : Model → Formula → ℕ → ℕ → RunSet → Type 0
+TrueAmong M f low n s = (j : ℕ) → low ≤ j → j < n → (ρ : Binding) → mem s j ≡ truth M f ρ j
 
 -- the numbers of a rule file's labels among those of a trace
 abbrev pub WantedIn : Trace → List ℕ → List ℕ → Type 0
 WantedIn u file wanted = (p : ℕ) → p < labelCount file → getD wanted p 0 ≡ numberFor (u .labels) (labelBytes file p)
 
--- s has the moments at which the rule is true of the runs of a record, in the order in which they finish
-abbrev pub TrueOfRanks : List ℕ → Rule → List ℕ → RunTable → Order → RunSet → Type 0
-TrueOfRanks file x wanted t o s =
+-- s has the moments from low on at which the rule is true of the runs of a record, in the order in which they finish
+abbrev pub TrueOfRanks : List ℕ → Rule → List ℕ → RunTable → Order → ℕ → RunSet → Type 0
+TrueOfRanks file x wanted t o low s =
     (log : List ℕ) (u : Trace) → Accepted log u → t ≡ recordOf u .runs → Holds (orderTo (u .runs)) (u .lines) o → WantedIn u file wanted
-    → TrueAmong (rankModel u) (formulaOf file x) (o .count) s
+    → TrueAmong (rankModel u) (formulaOf file x) low (o .count) s

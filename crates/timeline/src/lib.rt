@@ -2,9 +2,9 @@
 //
 // `judge_all` evaluates a rule for all moments of a record's log: the moments at which it is true, its truth before the first run
 // finishes, and how many runs are finished by each line. `verdict_at` reads the verdict of a line off these. A begin line changes no
-// finished run, so its verdict is that of the line before.
+// finished run, so its verdict is that of the line before. `judge_last` evaluates the rule at the last line's moment only.
 ghost use mathlib.Core.Path.{_≡_};
-ghost use Prim.Native.Nat.{_≤_};
+ghost use Prim.Native.Nat.{_-_, _≤_};
 ghost use lib.ListN.{length, getD};
 ghost use Rattle.trace.specs.Record.{Valid};
 ghost use Rattle.rules.specs.Rules.{formulaOf, Taken};
@@ -14,7 +14,7 @@ ghost use Rattle.moments.specs.Rows.{RowsOf};
 ghost use Rattle.rows.specs.Values.{Wanted};
 ghost use Rattle.rows.specs.ByRank.{OrderFits};
 ghost use Rattle.timeline.specs.Root.{noRuns, Shaped, TrueAmong, TrueOfRanks};
-ghost use Rattle.timeline.specs.AllLines.{truthAfter, verdictAt, JudgesAll, JudgesLast};
+ghost use Rattle.timeline.specs.AllLines.{truthAfter, verdictAt, JudgesFrom, JudgesAll, JudgesLast};
 use logic::Verdict;
 use moments::Bindings;
 use moments::Rank;
@@ -37,7 +37,7 @@ pub struct Timeline {
     pub done: [u8; LINE_PLACES],
 }
 
-// Of the first `count` moments those at which the rule of a file is true, by a table of rows.
+// Of the moments from `low` to below `count` those at which the rule of a file is true, by a table of rows.
 fn true_moments(
     file: &[u8],
     rule: Rule,
@@ -45,17 +45,18 @@ fn true_moments(
     frees: &[u8],
     table: &[u64],
     runs: usize,
+    low: usize,
     count: usize,
 ) -> RunSet
     requires { ⌜ Taken (now file) rule ⌝ }
     requires { ⌜ Shaped (now file) rule (now heights) (now frees) ⌝ }
-    requires { ⌜ (2184 ≤ length (now table)) × (runs ≤ 128) × (count ≤ 128) ⌝ }
+    requires { ⌜ (2184 ≤ length (now table)) × (runs ≤ 128) × (low ≤ 128) × (count ≤ 128) ⌝ }
     ensures { λ s. ⌜ ((M : Model) → RowsOf (now (table .entry)) (now (file .entry)) runs M
-        → TrueAmong M (formulaOf (now (file .entry)) rule) count s) ⌝ }
+        → TrueAmong M (formulaOf (now (file .entry)) rule) low count s) ⌝ }
 {
     let none = Bindings { run: [Rank(0); 4] };
     let root = rule.count - 1;
-    let dom = sets::below(count);
+    let dom = sets::from(sets::below(count), low);
     moments::times::times(
         file,
         rule.nodes,
@@ -76,11 +77,22 @@ fn before_first(file: &[u8], rule: Rule, heights: &[u8], frees: &[u8]) -> bool
     ensures { λ b. ⌜ b ≡ truth noRuns (formulaOf (now (file .entry)) rule) (λ _. 0) 0 ⌝ }
 {
     let table = [0u64; TABLE_WORDS];
-    let s = true_moments(file, rule, heights, frees, &table, 0, 1);
+    let s = true_moments(file, rule, heights, frees, &table, 0, 0, 1);
     sets::has(s, 0)
 }
 
-// The moments at which the rule of a file is true of the runs of a record, in the order in which they finish.
+// The moment at which n runs are finished: moment 0 where none is.
+fn moment_of(n: usize) -> usize
+    requires { ⌜ n ≤ 128 ⌝ }
+    ensures { λ m. ⌜ (m ≡ n - 1) × (m ≤ 128) ⌝ }
+{
+    if n == 0 {
+        return 0;
+    }
+    n - 1
+}
+
+// The moments from that of a line on at which the rule of a file is true of the runs of a record, in the order in which they finish.
 fn ranked_moments(
     file: &[u8],
     rule: Rule,
@@ -89,22 +101,25 @@ fn ranked_moments(
     wanted: &[u8],
     t: RunTable,
     o: Order,
+    line: usize,
 ) -> RunSet
     requires { ⌜ Taken (now file) rule ⌝ }
     requires { ⌜ Shaped (now file) rule (now heights) (now frees) ⌝ }
     requires { ⌜ OrderFits t o × Wanted (now wanted) (rule .labels) ⌝ }
-    ensures { λ s. ⌜ TrueOfRanks (now (file .entry)) rule (now (wanted .entry)) t o s ⌝ }
+    requires { ⌜ (line ≤ 256) × (getD (o .done) line 0 ≤ 128) ⌝ }
+    ensures { λ s. ⌜ TrueOfRanks (now (file .entry)) rule (now (wanted .entry)) t o (getD (o .done) line 0 - 1) s ⌝ }
 {
+    let low = moment_of(o.done[line] as usize);
     let mut table = [0u64; TABLE_WORDS];
     rows::fill_rows(t, o, wanted, rule.labels, &mut table);
-    true_moments(file, rule, heights, frees, &table, o.count, o.count)
+    true_moments(file, rule, heights, frees, &table, o.count, low, o.count)
 }
 
-// Judges all lines of the log that left a record.
-pub fn judge_all(file: &[u8], rule: Rule, r: Record) -> Timeline
+// Judges the lines from `line` on of the log that left a record.
+fn judge_from(file: &[u8], rule: Rule, r: Record, line: usize) -> Timeline
     requires { ⌜ Taken (now file) rule ⌝ }
-    requires { ⌜ Valid r ⌝ }
-    ensures { λ y. ⌜ JudgesAll (now (file .entry)) rule r y ⌝ }
+    requires { ⌜ Valid r × (line ≤ 256) ⌝ }
+    ensures { λ y. ⌜ JudgesFrom (now (file .entry)) rule r line y ⌝ }
 {
     let runs = r.runs;
     let labels = r.labels;
@@ -114,13 +129,22 @@ pub fn judge_all(file: &[u8], rule: Rule, r: Record) -> Timeline
     let frees = shape::free_variables(file, rule.nodes, rule.count);
     let wanted = logic::shown::wanted_numbers(file, rule.labels, labels);
     let first = before_first(file, rule, &heights, &frees);
-    let moments = ranked_moments(file, rule, &heights, &frees, &wanted, runs, o);
+    let moments = ranked_moments(file, rule, &heights, &frees, &wanted, runs, o, line);
     let done = o.done;
     Timeline {
         moments: moments,
         first: first,
         done: done,
     }
+}
+
+// Judges all lines of the log that left a record.
+pub fn judge_all(file: &[u8], rule: Rule, r: Record) -> Timeline
+    requires { ⌜ Taken (now file) rule ⌝ }
+    requires { ⌜ Valid r ⌝ }
+    ensures { λ y. ⌜ JudgesAll (now (file .entry)) rule r y ⌝ }
+{
+    judge_from(file, rule, r, 0)
 }
 
 // The truth value once n runs are finished.
@@ -148,13 +172,13 @@ pub fn verdict_at(x: Timeline, line: usize) -> Verdict
     Verdict::Fails
 }
 
-// Judges the last line of the log that left a record.
+// Judges the last line of the log that left a record, at its one moment.
 pub fn judge_last(file: &[u8], rule: Rule, r: Record) -> Verdict
     requires { ⌜ Taken (now file) rule ⌝ }
     requires { ⌜ Valid r ⌝ }
     ensures { λ w. ⌜ JudgesLast (now (file .entry)) rule r w ⌝ }
 {
-    let x = judge_all(file, rule, r);
     let last = r.lines.0 as usize;
+    let x = judge_from(file, rule, r, last);
     verdict_at(x, last)
 }

@@ -17,7 +17,7 @@ has-requires : tie.Need-has-requires
 has-requires c κs = search needs
 
 returns : tie.Need-returns
-returns c = c .has .ensures ∙ c .before .true-moments .ensures noRuns (zero-rows 2184 _) 0 (omega arith) (λ _. 0)
+returns c = c .has .ensures ∙ c .before .true-moments .ensures noRuns (zero-rows 2184 _) 0 (omega arith) (omega arith) (λ _. 0)
 
 pub before-first-spec : {M : Type 1} → statement M
 before-first-spec =

@@ -3,8 +3,8 @@ use Rattle.timeline.proofs.LastLine.{valid-lines, last-fits, last-says}
 use Rattle.timeline.proofs.judge_last.Statement.{statement}
 use Rattle.timeline.proofs.judge_last.Tie as tie
 
-judge-all-requires : tie.Need-judge-all-requires
-judge-all-requires c κs = search needs
+judge-from-requires : tie.Need-judge-from-requires
+judge-from-requires c κs = (search needs, (search needs, search valid-lines))
 
 cast-last : tie.Need-cast-last
 cast-last c = search needs
@@ -16,4 +16,4 @@ returns : tie.Need-returns
 returns c = search last-says
 
 pub judge-last-spec : {M : Type 1} → statement M
-judge-last-spec = tie.close (tie.spec judge-all-requires cast-last verdict-at-requires returns)
+judge-last-spec = tie.close (tie.spec cast-last judge-from-requires verdict-at-requires returns)

@@ -12,17 +12,20 @@ sub-root c = search needs
 below-requires : tie.Need-below-requires
 below-requires c κs = search needs
 
+from-requires : tie.Need-from-requires
+from-requires c κs = search needs
+
 times-requires : tie.Need-times-requires
 times-requires c κs =
-    let s = c .before .before .before .before .before .before in
+    let s = c .before .before .before .before .before .before .before in
     root-ready (s .args .file .now) (s .args .rule) _ _ _ (s .args .runs) (s .pre .0) (s .pre .1 .0) (s .pre .1 .1 .0) (s .pre .1 .1 .1)
 
 returns : tie.Need-returns
 returns c =
-    let s = c .before .before .before .before .before .before .before in
+    let s = c .before .before .before .before .before .before .before .before in
     λ M rows.
-    true-among M (formulaOf (s .args .file .now) (s .args .rule)) (binding fromZero) (s .args .count) _ _ (s .pre .0 .closed) (s .pre .1 .1 .2)
-    (c .before .below .ensures) (c .times .ensures M rows)
+    true-among M (formulaOf (s .args .file .now) (s .args .rule)) (binding fromZero) (s .args .low) (s .args .count) _ _ _ (s .pre .0 .closed) (s .pre .1 .1 .3)
+    (c .before .before .below .ensures) (c .before .from .ensures) (c .times .ensures M rows)
 
 pub true-moments-spec : {M : Type 1} → statement M
-true-moments-spec = tie.close (tie.spec sub-root below-requires times-requires returns)
+true-moments-spec = tie.close (tie.spec sub-root below-requires from-requires times-requires returns)

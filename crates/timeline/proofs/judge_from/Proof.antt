@@ -3,16 +3,16 @@ use mathlib.Core.Path.{_≡_}
 use native.Mathlib.Omega.{arith}
 use lib.ListN.{length}
 use Rattle.trace.proofs.Bounds.{valid-fits}
-use Rattle.timeline.proofs.Answer.{ends-fit, ranks-fit, wanted-fit, judges-all}
+use Rattle.timeline.proofs.Answer.{ends-fit, ranks-fit, wanted-fit, done-low, judges-from}
 use borrow.Author.Needs.{needs}
-use Rattle.timeline.proofs.judge_all.Statement.{statement}
-use Rattle.timeline.proofs.judge_all.Tie as tie
+use Rattle.timeline.proofs.judge_from.Statement.{statement}
+use Rattle.timeline.proofs.judge_from.Tie as tie
 
 cast-lines : tie.Need-cast-lines
 cast-lines c = search needs
 
 finish-order-requires : tie.Need-finish-order-requires
-finish-order-requires c κs = let s = c .before .before .before .before in ends-fit (s .args .r) (s .pre .1)
+finish-order-requires c κs = let s = c .before .before .before .before in ends-fit (s .args .r) (s .pre .1 .0)
 
 heights-requires : tie.Need-heights-requires
 heights-requires c κs = search needs
@@ -23,7 +23,7 @@ free-variables-requires c κs = search needs
 wanted-numbers-requires : tie.Need-wanted-numbers-requires
 wanted-numbers-requires c κs =
     let s = c .before .before .before .before .before .before .before in
-    ((s .pre .0 .labels-few, s .pre .0 .labels-ok), valid-fits (s .args .r) (s .pre .1) .places)
+    ((s .pre .0 .labels-few, s .pre .0 .labels-ok), valid-fits (s .args .r) (s .pre .1 .0) .places)
 
 slice-aggregate-before-first : tie.Need-slice-aggregate-before-first
 slice-aggregate-before-first c = search needs
@@ -62,8 +62,11 @@ ranked-moments-requires c κs =
       (
         before-first-requires (c .before .before .before .before) (c .before .before .before .before-first .lifetimes) .1,
         (
-          ranks-fit (s .args .r) (s .pre .1) _ (c .before .before .before .before .before .before .before .before .before .finish-order .ensures),
-          wanted-fit (s .args .r) (s .pre .1) (s .args .file .now) (s .args .rule) _ (s .pre .0) wanted (c .before .before .before .before .before .before .wanted-numbers .ensures),
+          (
+            ranks-fit (s .args .r) (s .pre .1 .0) _ (c .before .before .before .before .before .before .before .before .before .finish-order .ensures),
+            wanted-fit (s .args .r) (s .pre .1 .0) (s .args .file .now) (s .args .rule) _ (s .pre .0) wanted (c .before .before .before .before .before .before .wanted-numbers .ensures),
+          ),
+          (s .pre .1 .1, done-low (s .args .r) (s .pre .1 .0) _ (c .before .before .before .before .before .before .before .before .before .finish-order .ensures) (s .args .line)),
         ),
       ),
     )
@@ -71,11 +74,11 @@ ranked-moments-requires c κs =
 returns : tie.Need-returns
 returns c =
     let s = c .before .before .before .before .before .before .before .before .before .before .before .before .before .before .before .before in
-    judges-all (s .args .r) (s .pre .1) (s .args .file .now) (s .args .rule) (c .before .before .before .before .before .before .before .before .wanted-numbers .result) _ _ _ (s .pre .0) (c .before .before .before .before .before .before .before .before .before .before .before .finish-order .ensures)
+    judges-from (s .args .r) (s .pre .1 .0) (s .args .file .now) (s .args .rule) (s .args .line) (c .before .before .before .before .before .before .before .before .wanted-numbers .result) _ _ _ (s .pre .0) (c .before .before .before .before .before .before .before .before .before .before .before .finish-order .ensures)
     (c .before .before .before .before .before .before .before .before .wanted-numbers .ensures) (c .before .before .before .before .before .before-first .ensures) (c .before .ranked-moments .ensures)
 
-pub judge-all-spec : {M : Type 1} → statement M
-judge-all-spec =
+pub judge-from-spec : {M : Type 1} → statement M
+judge-from-spec =
     tie.close
     (tie.spec
     cast-lines

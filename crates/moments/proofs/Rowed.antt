@@ -1,11 +1,11 @@
 -- The mark of rows: what a variable stands for in row k at moment j.
 use Prim.Native.Nat.{ℕ, _+_, _*_, _<_, _≤_}
-use mathlib.Core.Path.{_≡_, refl, sym, ap, ap₂, _∙_, fun-ext}
+use mathlib.Core.Path.{_≡_, refl, fun-ext}
 use mathlib.Core.Bool.{Bool, true, false, cond}
 use mathlib.Core.List.{List}
 use native.Mathlib.Omega.{arith}
 use lib.Dec.{eqb}
-use borrow.Author.Tests.{eq-eqb, ne-eqb}
+use borrow.Author.Tests.{ne-eqb}
 use Rattle.lists.proofs.Cases.{either-eq}
 use Rattle.sets.specs.Sets.{mem}
 use Rattle.logic.specs.Satisfies.{Binding, bind}

@@ -1,5 +1,5 @@
-// A formula for all runs and all moments at once: a matrix has a row for each run that one variable stands for, and keeps in it the
-// moments at which the formula is true. It serves two "some", one inside the other.
+// The search for a run in a formula with one "some" inside: all runs and all moments at once. A matrix has a row for each run that the
+// variable may stand for, and each part of the formula keeps in it the moments at which it is true.
 ghost use mathlib.Core.Path.{_≡_};
 ghost use mathlib.Core.List.{List};
 ghost use Prim.Native.Nat.{ℕ, _+_, _*_, _<_, _≤_};
@@ -11,10 +11,11 @@ ghost use Rattle.rules.specs.Table.{AtomOk, formulaAt};
 ghost use Rattle.logic.specs.Model.{Model};
 ghost use Rattle.moments.specs.Truth.{standsFor, at, Fixed, TrueAt, FalseWithout};
 ghost use Rattle.moments.specs.Rows.{row as rowOf, pairOf, atomOf, RowsOf};
-ghost use Rattle.moments.specs.Matrix.{inRow, rowed, asEach, Rowwise, RowByRow, Narrowed};
+ghost use Rattle.moments.specs.Matrix.{inRow, rowed, asEach, Rowwise, Narrowed};
 ghost use Rattle.moments.specs.Ready.{binding, RowsReady};
 use crate::Bindings;
 use crate::EACH;
+use crate::ROWS;
 use crate::Rank;
 use crate::matrix::MATRIX_WORDS;
 use crate::matrix::all_rows;
@@ -37,9 +38,6 @@ use crate::table::wide;
 use rules::Node;
 use rules::table::node_at;
 use sets::RunSet;
-
-// The mark of a variable that stands in row k for run k.
-const ROWS: usize = 129;
 
 // The mark for each run in place of the mark for each row.
 fn each_row(x: usize) -> usize

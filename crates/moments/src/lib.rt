@@ -9,7 +9,7 @@ mod search;
 mod table;
 pub mod times;
 
-// The rank of a run that a variable stands for, or EACH.
+// The rank of a run that a variable stands for, or a mark.
 pub struct Rank(pub u8);
 
 // The rank that each variable stands for.
@@ -19,3 +19,6 @@ pub struct Bindings {
 
 // The mark of a variable that stands at moment j for run j.
 const EACH: usize = 128;
+
+// The mark of a variable that stands in row k of a matrix for run k.
+const ROWS: usize = 129;

@@ -1,9 +1,9 @@
-// A matrix: a row for each run, which is a set of moments, as two words of a lent table. Each call goes once over the first rows.
+// A matrix: for each run a row, which is a set of moments, as two words of a lent table. Each call goes once over the rows of the
+// finished runs.
 ghost use mathlib.Core.Path.{_≡_};
 ghost use mathlib.Core.Bool.{true, false, not};
 ghost use Prim.Native.Nat.{ℕ, _+_, _*_, _<_, _≤_};
 ghost use lib.ListN.{length};
-ghost use Rattle.lists.specs.Tells.{Tells};
 ghost use Rattle.sets.specs.Sets.{mem, anyUpTo, anyBelow};
 ghost use Rattle.moments.specs.Rows.{row as rowOf};
 ghost use Rattle.moments.specs.Matrix.{Stored, RowByRow, Narrowed, StartOf};

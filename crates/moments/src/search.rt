@@ -14,7 +14,7 @@ use crate::ranks::fixed;
 use sets::RunSet;
 
 // Up to so many runs of a word are few.
-const FEW: u32 = 4;
+const FEW: u32 = 8;
 
 // How many "some" lie one inside another in a node, if no variable is marked; two otherwise.
 pub fn unmarked_height(heights: &[u8], node: usize, b: Bindings) -> u8

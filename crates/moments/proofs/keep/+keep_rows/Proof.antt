@@ -2,7 +2,6 @@
 use Prim.Native.Nat.{ℕ, _<_}
 use mathlib.Core.Path.{refl, sym, ap, _∙_}
 use native.Mathlib.Omega.{arith}
-use borrow.Author.Needs.{needs}
 use Rattle.sets.specs.Sets.{mem}
 use Rattle.sets.specs.declared.RunSet.{RunSet}
 use Rattle.rules.specs.Table.{formulaAt}
@@ -113,7 +112,7 @@ keep-rows-slice-aggregate-set-each : (t : ℕ) → keep-rows-lts.Need-slice-aggr
 keep-rows-slice-aggregate-set-each t c = refl
 
 keep-rows-below-requires : (t : ℕ) → keep-rows-lts.Need-below-requires (keep-rows-calls t) (keep-rows-at t) keep-rows.Post
-keep-rows-below-requires t c κs = let s = c .before .before .before .before .before .before .before .before in s .pre .1 .0 .runs-few
+keep-rows-below-requires t c κs = let s = c .before .before .before .before .before .before .before .before in omega (arith, s .pre .1 .0 .runs-few)
 
 keep-rows-set-each-requires : (t : ℕ) → keep-rows-lts.Need-set-each-requires (keep-rows-calls t) (keep-rows-at t) keep-rows.Post
 keep-rows-set-each-requires t c κs = let s = c .before .before .before .before .before .before .before .before .before in omega (arith, s .pre .1 .0 .runs-few)

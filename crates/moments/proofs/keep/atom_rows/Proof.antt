@@ -1,5 +1,5 @@
 -- Kind 4 is a label, and kinds 5 to 8 are relations.
-use Prim.Native.Nat.{ℕ, _<_}
+use Prim.Native.Nat.{ℕ, _-_, _<_}
 use mathlib.Core.Path.{ap}
 use native.Mathlib.Omega.{arith}
 use Rattle.moments.specs.Matrix.{inRow, rowed}
@@ -68,13 +68,15 @@ returns-2 c =
     let r = c .before .before .pair-rows .ensures in
     let most = s .pre .1 .1 (s .args .x .a) in
     let e = i .ensures in
-    let d = c .before .before .before .before .before .wide .ensures in (
+    let y = c .before .before .before .before .bound2 in
+    let w = c .before .before .before .before .before .wide in
+    let d = w .ensures in (
       r .0,
       λ file n M rows ok k l.
           let few : k < 128 = omega arith in
           let low = ok .low in
           narrowed-as _ _ _ _ (r .1 file n M rows k l)
-          (λ j _. atom-pair _ file n M rows _ ok (rowed (binding (s .args .b)) k) (inRow (i .result) k) (ap (λ (z : ℕ). inRow z k) e) (in-row-low (i .result) k few (omega arith)) _ _ (c .before .before .before .before .before .before .if1 .left) (omega arith) (ap (λ (z : ℕ). inRow z k) (c .before .before .before .before .bound2 .ensures)) j),
+          (λ j _. atom-pair _ file n M rows _ ok (rowed (binding (s .args .b)) k) (inRow (i .result) k) (ap (λ (z : ℕ). inRow z k) e) (in-row-low (i .result) k few (omega arith)) (w .result - 5) (inRow (y .result) k) (c .before .before .before .before .before .before .if1 .left) (omega arith) (ap (λ (z : ℕ). inRow z k) (y .ensures)) j),
     )
 
 pub atom-rows-spec : {M : Type 1} → statement M

@@ -40,7 +40,7 @@ pub record Stored (old new : List ℕ) (k : ℕ) (s : RunSet) : Type 0 where
 abbrev pub Rowwise : (ℕ → RunSet → RunSet → Type 0) → ℕ → List ℕ → List ℕ → Type 0
 Rowwise Becomes n old new = (k : ℕ) → k < n → Becomes k (row old k) (row new k)
 
--- so it is, and the other rows are as they were
+-- the same, and the other rows are as they were
 pub record RowByRow (Becomes : ℕ → RunSet → RunSet → Type 0) (n : ℕ) (old new : List ℕ) : Type 0 where
   pub long : length new ≡ length old
   pub rows : Rowwise Becomes n old new

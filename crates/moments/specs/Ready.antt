@@ -42,7 +42,8 @@ pub record Ready (file : List ℕ) (p : ℕ) (heights frees table : List ℕ) (r
   pub runs-few : runs ≤ 128
   pub in-range : InRange b
 
--- All that evaluating node n in a matrix needs. At most one "some" lies below, and none where a variable stands for each run already.
+-- All that evaluating node n in a matrix needs. No "some" lies inside another in it, and none at all where a variable stands for
+-- each run already.
 pub record RowsReady (file : List ℕ) (p : ℕ) (table : List ℕ) (runs n : ℕ) (b : Bindings) : Type 0 where
   pub good : Good file p n
   pub table-long : tableWords ≤ length table

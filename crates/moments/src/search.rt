@@ -1,4 +1,4 @@
-// What the search for a run leaves out: moments and runs that need no look.
+// How the search for a run goes, and what it leaves out: moments and runs that need no look.
 ghost use mathlib.Core.Path.{_≡_};
 ghost use mathlib.Core.Bool.{true, not, _&&_};
 ghost use Prim.Native.Nat.{ℕ, _<_};

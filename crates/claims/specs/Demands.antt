@@ -6,7 +6,7 @@
 --
 -- The words of this page, and where they are defined:
 --   Accepted log t      no line of log meets a refusal, and the trace t is what its lines leave      trace/specs/Trace.antt
---   Left log t r w      they leave the record r and the pair bytes of the work area w                monitor/specs/Handed.antt
+--   Left log t r w      they leave the record r and the pair bytes of the work area w                reading/specs/Left.antt
 --   ChecksLine, ChecksTallied, ChecksLog    the contracts of the calls of `monitor`                  monitor/specs/Line, Tally, Log.antt
 --   startOf, Reports    those of start_record and report                                             pairs/, report/specs
 --   Relating, Composition, Conversed    those of relate, compose and converse                        relations/specs

@@ -16,9 +16,8 @@ use Rattle.trace.specs.Record.{recordOf, Valid}
 use Rattle.trace.proofs.Bounds.{accepted-bounded}
 use Rattle.trace.proofs.Grown.{no-bytes, flat, step-is}
 use Rattle.rules.specs.declared.Rule.{Rule}
-use Rattle.rules.specs.Rules.{formulaOf}
 use Rattle.logic.specs.declared.Verdict.{Verdict}
-use Rattle.logic.specs.Verdict.{verdictByte, verdictOf}
+use Rattle.logic.specs.Verdict.{verdictByte}
 use Rattle.timeline.specs.declared.Timeline.{Timeline}
 use Rattle.timeline.specs.AllLines.{verdictAt, FitsRuns, JudgesAll}
 use Rattle.reading.specs.declared.LogRead.{LogRead}

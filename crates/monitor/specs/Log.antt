@@ -15,7 +15,6 @@ use Rattle.rules.specs.declared.Rule.{Rule}
 use Rattle.rules.specs.declared.RuleRead.the-variants as RuleRead
 use Rattle.rules.specs.Rules.{ruleOf, formulaOf}
 use Rattle.logic.specs.Verdict.{verdictByte, verdictOf, Says}
-use Rattle.reading.specs.declared.Ending.{Ending}
 use Rattle.reading.specs.declared.Ending.the-variants.{Read, Refused}
 use Rattle.reading.specs.declared.LogRead.{LogRead}
 use Rattle.reading.specs.Reading.{byAnswer, ended}

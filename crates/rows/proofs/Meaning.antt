@@ -1,14 +1,13 @@
 -- What the rows mean: filled from the record of an accepted log and the order of its runs, they are the rows of the model of its ranks.
 use Prim.Native.Nat.{ℕ, zero, suc, _+_, _*_, _-_, _/_, _%_, _<_, _≤_}
 use mathlib.Core.Path.{_≡_, refl, sym, ap, subst, _∙_}
-use mathlib.Core.Bool.{Bool, true, false, cond}
+use mathlib.Core.Bool.{cond}
 use mathlib.Core.List.{List, [], _∷_}
 use native.Mathlib.Omega.{arith}
 use native.Mathlib.Nat.{le-of-suc-le-suc, not-suc-le-zero}
 use borrow.Author.Tests.{lt-ltb, le-ltb}
 use lib.Dec.{eqb}
 use lib.ListN.{length, getD, List·getD-eq-default}
-use Rattle.lists.specs.Tells.{Tells}
 use Rattle.lists.proofs.Lists.{getD-pad}
 use Rattle.lists.proofs.Cases.{either-lt, either-eq}
 use Rattle.labels.specs.Label.{labelOf}

@@ -1,12 +1,14 @@
 -- The rows are made from positions; the pair bytes of the work area say the same.
 use Prim.Native.Nat.{ℕ, zero, suc, _+_, _*_, _<_}
-use mathlib.Core.Path.{_≡_, _∙_}
+use mathlib.Core.Path.{_≡_, ap, sym, _∙_}
 use mathlib.Core.List.{List}
 use native.Mathlib.Omega.{arith}
 use lib.Dec.{eqb}
+use lib.ListN.{getD}
 use Rattle.sets.specs.Sets.{mem}
 use Rattle.trace.specs.Trace.{Trace, Accepted}
-use Rattle.pairs.specs.Pairs.{pairByte}
+use Rattle.pairs.specs.Pairs.{pairByte, workOf}
+use Rattle.pairs.proofs.Grid.{getD-gridIn}
 use Rattle.logic.proofs.PairSays.{before-byte, overlaps-byte, includes-byte}
 use Rattle.moments.specs.Rows.{row, pairOf, RowsOf}
 use Rattle.rows.specs.RankModel.{rankRun, rankModel}
@@ -23,3 +25,11 @@ module _ (log : List ℕ) (t : Trace) (a : Accepted log t) (i j : ℕ) where
   pub rows-are-pair-bytes : (table file : List ℕ) (count : ℕ) → RowsOf table file count (rankModel t) → (k : ℕ) → k < 3 → i < 128 → j < 128
       → mem (row table (128 * k + i)) j ≡ eqb (pairByte (t .runs) (rankRun t i) (rankRun t j)) (5 + k)
   rows-are-pair-bytes table file count rows k h l m = rows .first-given k i j (omega arith) l m ∙ by-byte k h
+
+  -- and so the byte that a work area of these runs has for the two
+  pub rows-are-kept-bytes : (w : List ℕ) → w ≡ workOf (t .runs) w → rankRun t i < 128 → rankRun t j < 128
+      → (table file : List ℕ) (count : ℕ) → RowsOf table file count (rankModel t) → (k : ℕ) → k < 3 → i < 128 → j < 128
+      → mem (row table (128 * k + i)) j ≡ eqb (getD w (128 * rankRun t i + rankRun t j) 0) (5 + k)
+  rows-are-kept-bytes w e a b table file count rows k h l m =
+      let byte = ap (λ (v : List ℕ). getD v (128 * rankRun t i + rankRun t j) 0) e ∙ getD-gridIn (pairByte (t .runs)) w (rankRun t i) (rankRun t j) a b in
+      rows-are-pair-bytes table file count rows k h l m ∙ ap (λ (n : ℕ). eqb n (5 + k)) (sym byte)

@@ -1,17 +1,16 @@
 -- The digits of a word, and what the operations on words do to them.
-use mathlib.Core.Path.{_≡_, refl, sym, ap, ap₂, _∙_, subst}
+use mathlib.Core.Path.{_≡_, refl, sym, ap, _∙_}
 use mathlib.Core.Bool.{Bool, true, false, not, _&&_, _||_, true≢false}
-use mathlib.Core.Logic.{⊎-elim}
 use Prim.Native.Nat.{ℕ, zero, suc, _+_, _-_, _*_, _/_, _%_, _^_, _≤_, _<_}
-use native.Mathlib.Nat.{mod-lt, zero-lt-suc, not-suc-le-zero, pow-suc, lt-of-lt-of-le, add-comm, zero-div, div-eq-of-lt, div-one, mul-comm, mul-one}
+use native.Mathlib.Nat.{mod-lt, zero-lt-suc, pow-suc, lt-of-lt-of-le, add-comm, zero-div, div-eq-of-lt, div-one, mul-comm, mul-one}
 use native.Mathlib.Omega.{arith}
 use native.Mathlib.Numerals.{add-one}
-use lib.Dec.{ltb, leb, eqb}
+use lib.Dec.{ltb, eqb}
 use lib.Pow.{pow-pos, pow-mono, high, shr-shr, ones-split, ones-lt, shl-shr}
 use lib.Bits.{bitAnd, bitOr, bitXor, and-shr, or-shr, xor-shr, and-mod, or-mod, xor-mod}
 use lib.Arith.{dbl-pred, digits-mod}
 use lib.Count.{trailingZeros, under}
-use borrow.Author.Tests.{ltb-true, ltb-false, lt-ltb, le-ltb}
+use borrow.Author.Tests.{ltb-true, ltb-false}
 use Rattle.sets.specs.Sets.{bit}
 
 -- an operation that goes digit by digit

@@ -1,16 +1,16 @@
 -- What the operations on sets of runs do to their members.
-use mathlib.Core.Path.{_≡_, refl, sym, ap, ap₂, _∙_, subst}
+use mathlib.Core.Path.{_≡_, refl, sym, ap, _∙_, subst}
 use mathlib.Core.Bool.{Bool, true, false, not, cond, _&&_, _||_, or-true, true≢false}
 use mathlib.Core.Logic.{⊎-elim}
 use Prim.Native.Nat.{ℕ, zero, suc, _+_, _-_, _^_, _≤_, _<_}
-use native.Mathlib.Nat.{le-refl, eq-or-lt-of-le, le-of-suc-le-suc}
+use native.Mathlib.Nat.{eq-or-lt-of-le, le-of-suc-le-suc}
 use native.Mathlib.Omega.{arith}
-use lib.Dec.{ltb, leb, eqb}
+use lib.Dec.{ltb, leb}
 use lib.Bits.{bitAnd, bitOr, bitXor}
 use lib.Count.{trailingZeros}
 use borrow.Author.Tests.{ltb-true, ltb-false, lt-ltb, le-ltb, leb-true, leb-false, le-leb, lt-leb}
 use Rattle.sets.specs.Sets.{bit, mem, anyUpTo}
-use Rattle.sets.proofs.Bits.{bit-and, bit-or, bit-less, bit-zero, bit-ones, bit-high, bit-trailing, bit-under-trailing, trailing-lt}
+use Rattle.sets.proofs.Bits.{bit-and, bit-or, bit-less, bit-zero, bit-ones, bit-trailing, bit-under-trailing, trailing-lt}
 use Rattle.sets.specs.declared.RunSet.{RunSet}
 
 by-halves : (f : Bool → Bool → Bool) (b p q r p′ q′ r′ : Bool) → p ≡ f q r → p′ ≡ f q′ r′ → cond b p p′ ≡ f (cond b q q′) (cond b r r′)

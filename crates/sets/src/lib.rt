@@ -1,8 +1,8 @@
 // Sets of runs, as two words, and what the operations on them do to each member.
 ghost use mathlib.Core.Path.{_≡_};
-ghost use mathlib.Core.Bool.{Bool, true, false, not, _&&_, _||_};
-ghost use Prim.Native.Nat.{ℕ, _+_, _-_, _*_, _^_, _<_, _≤_};
-ghost use lib.Dec.{ltb, leb, eqb};
+ghost use mathlib.Core.Bool.{false, not, _&&_, _||_};
+ghost use Prim.Native.Nat.{ℕ, _+_, _-_, _^_, _<_, _≤_};
+ghost use lib.Dec.{ltb, leb};
 ghost use Rattle.lists.specs.Tells.{Tells};
 ghost use Rattle.sets.specs.Sets.{mem, anyUpTo};
 

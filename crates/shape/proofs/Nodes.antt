@@ -1,12 +1,12 @@
 -- The shape of a node's formula, from those of its children.
 use Prim.Native.Nat.{ℕ, zero, suc, _+_, _≤_, _<_, max}
 use mathlib.Core.Path.{_≡_, refl, sym, subst, ap, ap₂, _∙_}
-use mathlib.Core.Bool.{Bool, true, false, not, _&&_, _||_, cond}
+use mathlib.Core.Bool.{Bool, not, _&&_, _||_}
 use mathlib.Core.List.{List}
 use native.Mathlib.Nat.{max-le}
 use native.Mathlib.Numerals.{add-one}
 use native.Mathlib.Omega.{arith}
-use lib.Bits.{bitAnd, bitOr}
+use lib.Bits.{bitOr}
 use lib.Dec.{eqb}
 use lib.ListN.{getD}
 use Rattle.lists.proofs.Cases.{either-eq}
@@ -15,16 +15,10 @@ use Rattle.rules.specs.Limits.{maxNodes}
 use Rattle.rules.specs.Table.{nodeAt, Good, formulaAt}
 use Rattle.rules.specs.declared.Node.{Node}
 use Rattle.rules.proofs.Formulas.{by-kind, good-child, atom-fields, and-left-child, and-right-child, not-child, some-child, formula-and, formula-not, formula-some, formula-has, formula-before, formula-overlaps, formula-includes, formula-same}
-use Rattle.shape.specs.Shape.{flat?, free?, height}
+use Rattle.shape.specs.Shape.{free?, height}
 use Rattle.sets.specs.Sets.{bit}
-use Rattle.shape.specs.Tables.{FlatFlag, FreeMask, Height, Passed}
+use Rattle.shape.specs.Tables.{FreeMask, Height, Passed}
 use Rattle.sets.proofs.Bits.{bit-or}
-
-flags-both : (s t : Bool) (a b : ℕ) → a ≡ cond s 1 0 → b ≡ cond t 1 0 → bitAnd a b ≡ cond (s && t) 1 0
-flags-both true true a b e f = ap₂ bitAnd e f
-flags-both true false a b e f = ap₂ bitAnd e f
-flags-both false true a b e f = ap₂ bitAnd e f
-flags-both false false a b e f = ap₂ bitAnd e f
 
 module _ (file : List ℕ) (p n : ℕ) (x : Node) (is : x ≡ nodeAt file p n) (good : Good file p n) where
   -- ── children have smaller numbers ──
@@ -53,33 +47,6 @@ module _ (file : List ℕ) (p n : ℕ) (x : Node) (is : x ≡ nodeAt file p n) (
 
     pub some-in : x .kind ≡ 3 → x .b < m
     some-in k = omega (arith, some-before k)
-
-  -- ── no "some" ──
-  module _ (flags : List ℕ) (known : Passed FlatFlag file p n flags) where
-    pub flat-and : x .kind ≡ 1 → FlatFlag (formulaAt file p n) (bitAnd (getD flags (x .a) 0) (getD flags (x .b) 0))
-    unfolding flat?
-    flat-and k =
-        rw (formula-and file p n x is good k)
-        (flags-both (flat? (formulaAt file p (x .a))) (flat? (formulaAt file p (x .b))) _ _ (known (x .a) (and-left-before k)) (known (x .b) (and-right-before k)))
-
-    pub flat-not : x .kind ≡ 2 → FlatFlag (formulaAt file p n) (getD flags (x .a) 0)
-    unfolding flat?
-    flat-not k = rw (formula-not file p n x is good k) (known (x .a) (not-before k))
-
-  pub flat-some : x .kind ≡ 3 → FlatFlag (formulaAt file p n) 0
-  unfolding flat?
-  flat-some k = rw (formula-some file p n x is good k) refl
-
-  pub flat-atom : (x .kind ≡ 1 → ⊥) → (x .kind ≡ 2 → ⊥) → (x .kind ≡ 3 → ⊥) → FlatFlag (formulaAt file p n) 1
-  unfolding flat?
-  flat-atom n1 n2 n3 =
-      let a = atom-fields file p n x is good n1 n2 n3 in
-      by-kind (x .kind) (a .low) (a .high)
-      (λ k. rw (formula-has file p n x is good k) refl)
-      (λ k. rw (formula-before file p n x is good k) refl)
-      (λ k. rw (formula-overlaps file p n x is good k) refl)
-      (λ k. rw (formula-includes file p n x is good k) refl)
-      (λ k. rw (formula-same file p n x is good k) refl)
 
   -- ── free variables ──
   free-like : (f : Formula) (a : ℕ) → formulaAt file p n ≡ f → FreeMask f a → FreeMask (formulaAt file p n) a
@@ -172,8 +139,6 @@ module _ (file : List ℕ) (p n : ℕ) (x : Node) (is : x ≡ nodeAt file p n) (
       omega (arith, known (x .b) l, height-bound file p (x .b) (good-child file p n (x .b) good l))
 
 pub ruleset children = (and-left-in, and-right-in, not-in, some-in)
-
-pub ruleset flats = (flat-and, flat-not, flat-some, flat-atom)
 
 pub ruleset frees = (free-and, free-not, free-some, free-has, free-two)
 

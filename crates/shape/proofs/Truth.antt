@@ -74,10 +74,3 @@ module _ (m o : Model) (x : SameAtoms m o) where
   eval-flat (overlaps v w) ρ e = x .relates Relation.overlaps (ρ v) (ρ w)
   eval-flat (includes v w) ρ e = x .relates Relation.includes (ρ v) (ρ w)
   eval-flat (same v w) ρ e = x .alike (ρ v) (ρ w)
-
--- other runs, and others of them finished
-abbrev pub withRuns : ℕ → (ℕ → Bool) → Model → Model
-withRuns runs done m = record { runs = runs; done = done; labelled = m .labelled; relates = m .relates; alike = m .alike }
-
-pub eval-flat-runs : (m : Model) (runs : ℕ) (done : ℕ → Bool) (f : Formula) (ρ : Binding) → flat? f ≡ true → eval (withRuns runs done m) ρ f ≡ eval m ρ f
-eval-flat-runs m runs done = eval-flat (withRuns runs done m) m (record { labelled = λ j l. refl; relates = λ r j k. refl; alike = λ j k. refl })

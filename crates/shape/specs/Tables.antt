@@ -1,17 +1,12 @@
 -- Tables of numbers, one for each node of a rule: what the number of a node says of its formula.
 use Prim.Native.Nat.{ℕ, _≤_, _<_}
 use mathlib.Core.Path.{_≡_}
-use mathlib.Core.Bool.{cond}
 use mathlib.Core.List.{List}
 use lib.ListN.{getD}
 use Rattle.sets.specs.Sets.{bit}
 use Rattle.rules.specs.Formula.{Formula}
 use Rattle.rules.specs.Table.{formulaAt}
-use Rattle.shape.specs.Shape.{flat?, free?, height}
-
--- 1: no "some" in the formula
-abbrev pub FlatFlag : Formula → ℕ → Type 0
-FlatFlag f a = a ≡ cond (flat? f) 1 0
+use Rattle.shape.specs.Shape.{free?, height}
 
 -- the digits that are 1: the variables that stand free
 abbrev pub FreeMask : Formula → ℕ → Type 0

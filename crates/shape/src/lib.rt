@@ -1,8 +1,8 @@
 // The shape of a rule's nodes, which an evaluator wants to know before it starts.
 //
 // Each call goes once over the nodes of a rule, from the first, since children have smaller numbers, and answers a table with a number
-// for each node: `flat_nodes` whether its formula is free of "some", `free_variables` the mask of the variables that stand free in it,
-// and `heights` how many "some" lie one inside another in it.
+// for each node: `free_variables` the mask of the variables that stand free in it, and `heights` how many "some" lie one inside another
+// in it.
 ghost use mathlib.Core.Path.{_≡_};
 ghost use mathlib.Core.Bool.{not, _&&_};
 ghost use Prim.Native.Nat.{ℕ, _-_, _<_, _≤_, max};
@@ -11,46 +11,9 @@ ghost use lib.ListN.{length};
 ghost use Rattle.rules.specs.Limits.{variables, maxNodes};
 ghost use Rattle.rules.specs.Table.{Good, formulaAt};
 ghost use Rattle.sets.specs.Sets.{bit};
-ghost use Rattle.shape.specs.Tables.{FlatFlag, FreeMask, Height, Passed, TableOf};
+ghost use Rattle.shape.specs.Tables.{FreeMask, Height, Passed, TableOf};
 use rules::MAX_NODES;
 use rules::table::node_at;
-
-// The flag of node n, from those of the nodes before it.
-fn flat_node(file: &[u8], first: usize, n: usize, flags: &[u8]) -> u8
-    requires { ⌜ Good (now file) first n ⌝ }
-    requires { ⌜ n ≤ length (now flags) ⌝ }
-    requires { ⌜ Passed FlatFlag (now file) first n (now flags) ⌝ }
-    ensures { λ r. ⌜ FlatFlag (formulaAt (now (file .entry)) first n) r ⌝ }
-{
-    let x = node_at(file, first, n);
-    let kind = x.kind;
-    let a = x.a;
-    let b = x.b;
-    if kind == 1 {
-        flags[a] & flags[b]
-    } else if kind == 2 {
-        flags[a]
-    } else if kind == 3 {
-        0
-    } else {
-        1
-    }
-}
-
-// Which nodes have a formula without "some": 1 for each of them.
-pub fn flat_nodes(file: &[u8], first: usize, count: usize) -> [u8; MAX_NODES]
-    requires { ⌜ count ≤ maxNodes ⌝ }
-    requires { ⌜ Good (now file) first (count - 1) ⌝ }
-    ensures { λ r. ⌜ TableOf FlatFlag (now (file .entry)) first count r ⌝ }
-{
-    let mut flags = [0u8; MAX_NODES];
-    let mut n: usize = 0;
-    while n < count {
-        flags[n] = flat_node(file, first, n, &flags);
-        n += 1;
-    }
-    flags
-}
 
 // The mask that has variable v alone.
 fn digit(v: usize) -> u8

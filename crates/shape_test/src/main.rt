@@ -1,6 +1,6 @@
 // Writes the shape of each node of some rules.
 //
-// A line has the node's number, 1 if its formula has no "some" and otherwise 0, the mask of its free variables, and its height.
+// A line has the node's number, the mask of its free variables, and its height.
 ghost use Prim.Native.Nat.{_≤_};
 ghost use Rattle.rules.specs.Rules.{Taken};
 use rules::MAX_NODES;
@@ -8,26 +8,20 @@ use rules::Rule;
 use rules::RuleRead;
 
 // Writes the line of node n.
-fn write_node(n: usize, flag: u8, mask: u8, height: u8) {
+fn write_node(n: usize, mask: u8, height: u8) {
     test_text::write_next(n as u64);
-    test_text::write_next(test_text::wide(flag));
     test_text::write_next(test_text::wide(mask));
     test_text::write_number(test_text::wide(height));
     test_text::write(b"\n");
 }
 
 // Writes the lines of the first nodes.
-fn write_nodes(
-    count: usize,
-    flags: [u8; MAX_NODES],
-    masks: [u8; MAX_NODES],
-    heights: [u8; MAX_NODES],
-)
+fn write_nodes(count: usize, masks: [u8; MAX_NODES], heights: [u8; MAX_NODES])
     requires { ⌜ count ≤ 64 ⌝ }
 {
     let mut n: usize = 0;
     while n < count {
-        write_node(n, flags[n], masks[n], heights[n]);
+        write_node(n, masks[n], heights[n]);
         n += 1;
     }
 }
@@ -36,10 +30,9 @@ fn write_nodes(
 fn show_rule(file: &[u8], x: Rule)
     requires { ⌜ Taken (now file) x ⌝ }
 {
-    let flags = shape::flat_nodes(file, x.nodes, x.count);
     let masks = shape::free_variables(file, x.nodes, x.count);
     let heights = shape::heights(file, x.nodes, x.count);
-    write_nodes(x.count, flags, masks, heights);
+    write_nodes(x.count, masks, heights);
 }
 
 // Reads a rule file and writes its nodes.

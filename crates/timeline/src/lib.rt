@@ -30,7 +30,8 @@ const LINE_PLACES: usize = 257;
 // The words of the table of rows.
 const TABLE_WORDS: usize = 2184;
 
-// The moments at which a rule is true, whether it is true before the first of them, and how many runs are finished by each line.
+// The moments at which a rule is true, whether it is true before the first of them, and how many runs are finished by each line. What
+// `verdict_at` reads off it is promised.
 pub struct Timeline {
     pub moments: RunSet,
     pub first: bool,

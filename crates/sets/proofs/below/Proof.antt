@@ -1,7 +1,6 @@
-use Rattle.sets.specs.Sets.{mem}
 use Rattle.sets.proofs.Sets.{mem-below-low, mem-below-high}
 use native.Mathlib.Omega.{arith}
-use mathlib.Core.Path.{_≡_, refl, sym, _∙_, ap}
+use mathlib.Core.Path.{_≡_, refl}
 use borrow.Author.Needs.{needs}
 use Rattle.sets.proofs.below.Statement.{statement}
 use Rattle.sets.proofs.below.Tie as tie

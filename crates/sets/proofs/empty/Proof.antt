@@ -1,4 +1,3 @@
-use Rattle.sets.specs.Sets.{mem}
 use Rattle.sets.proofs.Sets.{mem-none}
 use mathlib.Core.Path.{refl}
 use Rattle.sets.proofs.empty.Statement.{statement}

@@ -1,4 +1,3 @@
-use Rattle.sets.specs.Sets.{mem}
 use Rattle.sets.proofs.Sets.{from-law}
 use borrow.Author.Needs.{needs}
 use Rattle.sets.proofs.from.Statement.{statement}

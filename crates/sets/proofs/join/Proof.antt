@@ -1,4 +1,3 @@
-use Rattle.sets.specs.Sets.{mem}
 use Rattle.sets.proofs.Sets.{mem-join}
 use Rattle.sets.proofs.join.Statement.{statement}
 use Rattle.sets.proofs.join.Tie as tie

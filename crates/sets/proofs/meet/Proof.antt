@@ -1,4 +1,3 @@
-use Rattle.sets.specs.Sets.{mem}
 use Rattle.sets.proofs.Sets.{mem-meet}
 use Rattle.sets.proofs.meet.Statement.{statement}
 use Rattle.sets.proofs.meet.Tie as tie

@@ -1,4 +1,3 @@
-use Rattle.sets.specs.Sets.{mem}
 use Rattle.sets.proofs.Sets.{mem-minus}
 use Rattle.sets.proofs.minus.Statement.{statement}
 use Rattle.sets.proofs.minus.Tie as tie

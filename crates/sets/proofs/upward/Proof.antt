@@ -1,10 +1,10 @@
 use mathlib.Core.Bool.{false}
-use Rattle.sets.specs.Sets.{mem, anyUpTo}
+use Rattle.sets.specs.Sets.{mem}
 use Rattle.sets.proofs.Sets.{least-low, least-high, up-law, none-up, mem-none}
-use lib.Count.{trailingZeros, trailing-le}
-use mathlib.Core.Path.{_≡_, refl, sym, _∙_, ap}
+use lib.Count.{trailing-le}
+use mathlib.Core.Path.{_≡_, sym, _∙_}
 use native.Mathlib.Omega.{arith}
-use Prim.Native.Nat.{ℕ, _+_, _-_, _*_, _^_, _<_, _≤_}
+use Prim.Native.Nat.{ℕ, _-_}
 use borrow.Author.Needs.{needs}
 use Rattle.sets.proofs.upward.Statement.{statement}
 use Rattle.sets.proofs.upward.Tie as tie

@@ -1,8 +1,6 @@
 use Prim.Native.Nat.{_-_, _≤_}
-use mathlib.Core.Path.{_≡_}
 use native.Mathlib.Omega.{arith}
 use borrow.Author.Needs.{needs}
-use lib.ListN.{length}
 use Rattle.monitor.specs.Written.{Written}
 use Rattle.monitor.proofs.WholeLog.{fits-at, written-none, written-more, written-all}
 use Rattle.monitor.proofs.log.write_verdicts.Statement.{statement}

@@ -5,7 +5,7 @@ use mathlib.Core.Bool.{Bool, true, false, not, _&&_, and-assoc}
 use mathlib.Core.List.{List}
 use Rattle.sets.specs.Sets.{mem}
 use Rattle.sets.specs.declared.RunSet.{RunSet}
-use Rattle.rules.specs.Formula.{Formula, exists}
+use Rattle.rules.specs.Formula.{Formula, neg, exists}
 use Rattle.rules.specs.Parts.{labelCount}
 use Rattle.rules.specs.Table.{opOf, nodeAt, Good, AtomOk, shape, formulaAt}
 use Rattle.rules.specs.declared.Node.{Node}
@@ -26,6 +26,10 @@ minus-part false t = refl
 pub true-from : (M : Model) (f : Formula) (ρ : Binding) (a b r : RunSet) → a ≡ b → TrueAt M f ρ a r → TrueAt M f ρ b r
 true-from M f ρ a b r e = subst (λ (s : RunSet). TrueAt M f ρ s r) e
 
+pub true-neg : (M : Model) (f : Formula) (ρ : Binding) (dom l r : RunSet) → TrueAt M f ρ dom l → Narrowed (λ j. not (mem l j)) dom r → TrueAt M (neg f) ρ dom r
+unfolding eval
+true-neg M f ρ dom l r hx hr j h = hr j h ∙ (ap (λ (b : Bool). mem dom j && not b) (hx j h) ∙ minus-part (mem dom j) (truth M f (at ρ j) j))
+
 module _ (M : Model) (ρ : Binding) (file : List ℕ) (p n : ℕ) (x : Node) (is : x ≡ nodeAt file p n) (good : Good file p n) where
   abbrev Moments : ℕ → RunSet → RunSet → Type 0
   Moments c dom r = TrueAt M (formulaAt file p c) ρ dom r
@@ -44,10 +48,11 @@ module _ (M : Model) (ρ : Binding) (file : List ℕ) (p n : ℕ) (x : Node) (is
   moments-and-none dom l k hx z j h =
       rw (formula-and file p n x is good k) (hx j h ∙ none-part (mem dom j) (holds (x .a) j) (holds (x .b) j) (sym (hx j h) ∙ z j))
 
+  pub moments-neg : (dom r : RunSet) → x .kind ≡ 2 → TrueAt M (neg (formulaAt file p (x .a))) ρ dom r → Moments n dom r
+  moments-neg dom r k hx j h = rw (formula-not file p n x is good k) (hx j h)
+
   pub moments-not : (dom l r : RunSet) → x .kind ≡ 2 → Moments (x .a) dom l → Narrowed (λ j. not (mem l j)) dom r → Moments n dom r
-  unfolding eval
-  moments-not dom l r k hx hr j h =
-      rw (formula-not file p n x is good k) (hr j h ∙ (ap (λ (b : Bool). mem dom j && not b) (hx j h) ∙ minus-part (mem dom j) (holds (x .a) j)))
+  moments-not dom l r k hx hr = moments-neg dom r k (true-neg M (formulaAt file p (x .a)) ρ dom l r hx hr)
 
   pub moments-some : (dom r : RunSet) → x .kind ≡ 3 → TrueAt M (exists (x .a) (formulaAt file p (x .b))) ρ dom r → Moments n dom r
   moments-some dom r k hx j h = rw (formula-some file p n x is good k) (hx j h)

@@ -99,6 +99,18 @@ module _ (file : List ℕ) (p : ℕ) (table : List ℕ) (runs n : ℕ) (b : Bind
       no-mark w true q = omega arith
       no-mark w false q = omega (arith, fx w)
 
+  -- a variable is marked to stand for each run, where no "some" is left
+  pub each-ready : height (formulaAt file p n) ≡ 0 → (c : Bindings) (v : ℕ) → binding c ≡ bind (binding b) v 128 → RowsReady file p table runs n c
+  each-ready z c v e = record {
+    good = h .good;
+    table-long = h .table-long;
+    labels-few = h .labels-few;
+    runs-few = h .runs-few;
+    in-range = λ w. subst (λ (ρ : Binding). ρ w ≤ 129) (sym e) (bind-within (binding b) v 128 129 (h .in-range) (omega arith) w);
+    low = omega arith;
+    alone = λ w q. z;
+  }
+
   rows-child : (c : ℕ) → c < n → height (formulaAt file p c) ≤ height (formulaAt file p n) → (c < n) × RowsReady file p table runs c b
   rows-child c l g = (
     l,
@@ -131,27 +143,14 @@ module _ (file : List ℕ) (p : ℕ) (table : List ℕ) (runs n : ℕ) (b : Bind
     unfolding height
     below-some k = rw (formula-some file p n x is (h .good) k) refl
 
+    pub some-rows : x .kind ≡ 3 → (x .b < n) × RowsReady file p table runs (x .b) b
+    some-rows k = rows-child (x .b) (some-child file p n x is (h .good) n refl k .0) (omega (arith, below-some k))
+
     pub unmarked : x .kind ≡ 3 → (v : ℕ) → binding b v ≡ 128 → ⊥
     unmarked k v e = omega (arith, h .alone v e, below-some k)
 
     pub some-flat : x .kind ≡ 3 → height (formulaAt file p (x .b)) ≡ 0
     some-flat k = omega (arith, h .low, below-some k)
-
-    pub found-ready : x .kind ≡ 3 → (c : Bindings) → binding c ≡ bind (binding b) (x .a) 128 → (x .b < n) × RowsReady file p table runs (x .b) c
-    found-ready k c e =
-        let l = some-child file p n x is (h .good) n refl k .0 in
-        let z = some-flat k in (
-          l,
-          record {
-            good = good-child file p n (x .b) (h .good) l;
-            table-long = h .table-long;
-            labels-few = h .labels-few;
-            runs-few = h .runs-few;
-            in-range = λ w. subst (λ (ρ : Binding). ρ w ≤ 129) (sym e) (bind-within (binding b) (x .a) 128 129 (h .in-range) (omega arith) w);
-            low = omega arith;
-            alone = λ v q. z;
-          },
-        )
 
     pub atom-rows-ready : (x .kind ≡ 1 → ⊥) → (x .kind ≡ 2 → ⊥) → (x .kind ≡ 3 → ⊥) → AtomOk 64 x
     atom-rows-ready n1 n2 n3 = atom-more _ 64 x (atom-fields file p n x is (h .good) n1 n2 n3) (h .labels-few)

@@ -5,11 +5,12 @@ ghost use mathlib.Core.List.{List};
 ghost use Prim.Native.Nat.{ℕ, _+_, _*_, _<_, _≤_};
 ghost use lib.ListN.{length};
 ghost use Rattle.sets.specs.Sets.{mem};
-ghost use Rattle.rules.specs.Formula.{exists};
+ghost use Rattle.rules.specs.Formula.{neg, exists};
 ghost use Rattle.rules.specs.Parts.{labelCount};
 ghost use Rattle.rules.specs.Table.{AtomOk, formulaAt};
 ghost use Rattle.logic.specs.Model.{Model};
-ghost use Rattle.moments.specs.Truth.{standsFor, at, Fixed, TrueAt, FalseWithout};
+ghost use Rattle.shape.specs.Shape.{height};
+ghost use Rattle.moments.specs.Truth.{each, standsFor, at, Fixed, TrueAt, FalseWithout};
 ghost use Rattle.moments.specs.Rows.{row as rowOf, pairOf, atomOf, RowsOf};
 ghost use Rattle.moments.specs.Matrix.{inRow, rowed, asEach, Rowwise, Narrowed};
 ghost use Rattle.moments.specs.Ready.{binding, RowsReady};
@@ -130,19 +131,58 @@ fn keep_rows(
         }
         keep_rows(file, first, table, runs, x.b, b, m);
     } else if kind == 2 {
-        let mut inner = [0u64; MATRIX_WORDS];
-        copy_rows(&mut inner, runs, m);
-        keep_rows(file, first, table, runs, x.a, b, &mut inner);
-        minus_rows(m, runs, &inner);
+        keep_not(file, first, table, runs, x.a, b, m);
     } else if kind == 3 {
-        let mut found = [0u64; MATRIX_WORDS];
-        set_each(&mut found, runs, sets::below(runs));
-        let each = rebound(b, x.a, Rank(EACH as u8));
-        keep_rows(file, first, table, runs, x.b, each, &mut found);
-        meet_upward(m, runs, &found);
+        keep_some(file, first, table, runs, x.b, x.a, b, m);
     } else {
         atom_rows(table, x, b, runs, m);
     }
+}
+
+// The rows keep the moments at which the formula of a node is false. A function of its own, as is keep_some, so that only the nodes that
+// need a second matrix take stack for one.
+fn keep_not(
+    file: &[u8],
+    first: usize,
+    table: &[u64],
+    runs: usize,
+    child: usize,
+    b: Bindings,
+    m: &mut [u64],
+)
+    requires { ⌜ RowsReady (now file) first (now table) runs child b × (256 ≤ length (now m)) ⌝ }
+    ensures { λ u. ⌜ (length (now (m .exit)) ≡ length (now (m .entry)))
+        × ((M : Model) → RowsOf (now (table .entry)) (now (file .entry)) runs M
+        → Rowwise (λ k. TrueAt M (neg (formulaAt (now (file .entry)) first child)) (rowed (binding b) k)) runs (now (m .entry)) (now (m .exit))) ⌝ }
+{
+    let mut inner = [0u64; MATRIX_WORDS];
+    copy_rows(&mut inner, runs, m);
+    keep_rows(file, first, table, runs, child, b, &mut inner);
+    minus_rows(m, runs, &inner);
+}
+
+// The rows keep the moments at which the formula of a node without "some" is true with variable v at some finished run.
+fn keep_some(
+    file: &[u8],
+    first: usize,
+    table: &[u64],
+    runs: usize,
+    child: usize,
+    v: usize,
+    b: Bindings,
+    m: &mut [u64],
+)
+    requires { ⌜ RowsReady (now file) first (now table) runs child b × (256 ≤ length (now m)) ⌝ }
+    requires { ⌜ (v < 4) × (height (formulaAt (now file) first child) ≡ 0) × ((w : ℕ) → binding b w ≡ each → ⊥) ⌝ }
+    ensures { λ u. ⌜ (length (now (m .exit)) ≡ length (now (m .entry)))
+        × ((M : Model) → RowsOf (now (table .entry)) (now (file .entry)) runs M
+        → Rowwise (λ k. TrueAt M (exists v (formulaAt (now (file .entry)) first child)) (rowed (binding b) k)) runs (now (m .entry)) (now (m .exit))) ⌝ }
+{
+    let mut found = [0u64; MATRIX_WORDS];
+    set_each(&mut found, runs, sets::below(runs));
+    let each = rebound(b, v, Rank(EACH as u8));
+    keep_rows(file, first, table, runs, child, each, &mut found);
+    meet_upward(m, runs, &found);
 }
 
 // The moments of dom at which the formula of a node is true with variable v at some finished run, where no run outside keep serves.

@@ -5,10 +5,10 @@ use Rattle.shape_test.proofs.write_nodes.Statement.{statement}
 use Rattle.shape_test.proofs.write_nodes.Tie as tie
 
 abbrev Inv-loop : tie.InvT-loop
-Inv-loop count flags masks heights n₀ n = n ≤ count
+Inv-loop count masks heights n₀ n = n ≤ count
 
 abbrev μ-loop : tie.MeasureT-loop
-μ-loop count flags masks heights n₀ n = count - n
+μ-loop count masks heights n₀ n = count - n
 
 loop-holds : tie.Need-loop-holds Inv-loop μ-loop
 loop-holds c = search needs
@@ -18,9 +18,6 @@ array-read-write-node c = search needs
 
 array-read-write-node-2 : tie.Need-array-read-write-node-2 Inv-loop μ-loop
 array-read-write-node-2 c = search needs
-
-array-read-write-node-3 : tie.Need-array-read-write-node-3 Inv-loop μ-loop
-array-read-write-node-3 c = search needs
 
 write-node-requires : tie.Need-write-node-requires Inv-loop μ-loop
 write-node-requires c κs = search needs
@@ -46,7 +43,6 @@ write-nodes-spec =
     loop-holds
     array-read-write-node
     array-read-write-node-2
-    array-read-write-node-3
     write-node-requires
     add-n
     loop-less

@@ -1,6 +1,10 @@
 //! The two baselines answer what the proved check answers, and rules and logs are what they are said to be.
 
-use crate::logs::{begins_first, interleaved, kept, section_6_of_figure_1, section_6_of_section_3, Log};
+use crate::deep::{deep_rule, has_open_pair};
+use crate::logs::{
+    begins_first, begins_first_by, interleaved, interleaved_by, kept, section_6_of_figure_1, section_6_of_section_3, Log,
+};
+use crate::measure::Baseline;
 use crate::rules::{figure_1, section_3, two_nodes, worst, Case};
 use crate::trace::{Line, Trace};
 use crate::{plain, published, LABELS};
@@ -10,6 +14,10 @@ use generate::rules::legal_rule;
 use proved::{check_log, VERDICT_BYTES, WORK_BYTES};
 use reference::listing::rule_file;
 use reference::rule::read_rule;
+use std::collections::BTreeSet;
+
+const PLAIN: (&str, Baseline) = ("plain", plain::verdicts);
+const PUBLISHED: (&str, Baseline) = ("published", published::verdicts);
 
 /// The verdicts of the accepted lines by the proved check; the rule is legal.
 fn proved_verdicts(rule: &[u8], log: &[u8]) -> Vec<bool> {
@@ -20,12 +28,23 @@ fn proved_verdicts(rule: &[u8], log: &[u8]) -> Vec<bool> {
 
 /// All three on a rule and the accepted lines of a log; answers the verdicts.
 fn agreed_verdicts(rule: &[u8], log: &[u8], message: &str) -> Vec<bool> {
+    agreed_with(&[PLAIN, PUBLISHED], rule, log, message)
+}
+
+/// The proved check and these baselines on a rule and the accepted lines of a log; answers the verdicts.
+fn agreed_with(baselines: &[(&str, Baseline)], rule: &[u8], log: &[u8], message: &str) -> Vec<bool> {
     let expected = proved_verdicts(rule, log);
     let accepted: usize = log.split_inclusive(|byte| *byte == b'\n').take(expected.len()).map(<[u8]>::len).sum();
     let (rule, trace) = (read_rule(rule).expect("a legal rule"), Trace::read(&log[..accepted]));
-    assert_eq!(plain::verdicts(&rule, &trace), expected, "plain, {message}");
-    assert_eq!(published::verdicts(&rule, &trace), expected, "published, {message}");
+    for (name, verdicts_of) in baselines {
+        assert_eq!(verdicts_of(&rule, &trace), expected, "{name}, {message}");
+    }
     expected
+}
+
+/// How often the verdict changes from a line to the next.
+fn changes(verdicts: &[bool]) -> usize {
+    verdicts.windows(2).filter(|two| two[0] != two[1]).count()
 }
 
 #[test]
@@ -42,21 +61,69 @@ fn the_three_agree_on_generated_cases() {
     assert!(holds >= 1000 && fails >= 1000, "{holds} lines hold, {fails} fail");
 }
 
-/// Rules with up to four nested "some" on small logs of both kinds.
+/// Rules with two to four nested "some" on logs of up to 14 runs of both kinds: three of four from `deep`, the others from
+/// `generate`.
 #[test]
 fn the_three_agree_on_small_logs_with_deep_rules() {
-    let labels: Vec<Vec<u8>> = ["1", "2", "NEVER"].map(|label| label.as_bytes().to_vec()).into();
-    let mut changes = 0;
-    for seed in 0..1500 {
+    let rule_labels = ["1", "2", "NEVER"];
+    let (mut logs, mut for_matrix, mut changed) = (BTreeSet::new(), 0, 0);
+    for seed in 0..6000 {
         let random = &mut Random::new(seed);
-        let rule = legal_rule(random, labels.clone(), 4).to_bytes();
-        let runs = random.between(1, 6);
-        for log in [interleaved(runs, &LABELS), begins_first(runs, &LABELS)] {
+        let rule = match random.between(1, 4) {
+            1 => legal_rule(random, rule_labels.map(|label| label.as_bytes().to_vec()).into(), 4).to_bytes(),
+            nested => deep_rule(random, &rule_labels, nested),
+        };
+        let runs = if random.chance(1, 4) { random.between(1, 8) } else { random.between(9, 14) };
+        let labels: Vec<&str> = (0..runs).map(|_| *random.pick(&LABELS)).collect();
+        let is_for_matrix = runs >= 9 && has_open_pair(&read_rule(&rule).expect("a legal rule"));
+        for log in [interleaved_by(!seed, runs, &labels), begins_first_by(!seed, runs, &labels)] {
             let verdicts = agreed_verdicts(&rule, &log.bytes, &format!("seed {seed}, {}", log.kind));
-            changes += verdicts.windows(2).filter(|two| two[0] != two[1]).count();
+            changed += changes(&verdicts);
+            for_matrix += usize::from(is_for_matrix);
+            logs.insert(log.bytes);
         }
     }
-    assert!(changes >= 500, "{changes} changes of a verdict");
+    assert!(logs.len() >= 10_000 && for_matrix >= 4000, "{} different logs, {for_matrix} rules for the matrix", logs.len());
+    assert!(changed >= 5000, "{changed} changes of a verdict");
+}
+
+/// Three nested "some" and rows of two words. Only runs that finish as the 65th or later have the label LATE, so that verdicts
+/// also change there. Plain takes long here and judges one log of eight.
+#[test]
+fn proved_and_published_agree_on_logs_of_70_runs_with_deep_rules() {
+    let (mut for_matrix, mut changed, mut changed_late) = (0, 0, 0);
+    for seed in 0..1200 {
+        let random = &mut Random::new(seed);
+        let rule = deep_rule(random, &["1", "LATE"], 3);
+        let log = |labels: &[&str]| {
+            if seed % 2 == 0 { interleaved_by(!seed, 70, labels) } else { begins_first_by(!seed, 70, labels) }
+        };
+        let mut labels: Vec<&str> = (0..70).map(|_| *random.pick(&LABELS)).collect();
+        let (late, from) = late_runs(&log(&labels));
+        for run in late {
+            labels[run] = *random.pick(&["LATE", "LATE", "1", ""]);
+        }
+        let baselines = if seed % 16 < 2 { &[PUBLISHED, PLAIN][..] } else { &[PUBLISHED] };
+        let log = log(&labels);
+        let verdicts = agreed_with(baselines, &rule, &log.bytes, &format!("seed {seed}, {}", log.kind));
+        changed += changes(&verdicts);
+        changed_late += changes(&verdicts[from - 1..]);
+        for_matrix += usize::from(has_open_pair(&read_rule(&rule).expect("a legal rule")));
+    }
+    assert!(for_matrix >= 600, "{for_matrix} rules for the matrix");
+    assert!(changed >= 800 && changed_late >= 50, "{changed} changes of a verdict, {changed_late} of them late");
+}
+
+/// The runs that finish as the 65th or later, whose ranks are in the second word of a row, and how many lines come before the
+/// first of these ends.
+fn late_runs(log: &Log) -> (Vec<usize>, usize) {
+    let lines = Trace::read(&log.bytes).lines;
+    let ends = lines.iter().enumerate().filter_map(|(before, line)| match line {
+        Line::End { run } => Some((*run, before)),
+        Line::Begin { .. } => None,
+    });
+    let (late, before): (Vec<usize>, Vec<usize>) = ends.skip(64).unzip();
+    (late, before[0])
 }
 
 /// Rows of one word and, from 65 finished runs on, of two.
@@ -131,6 +198,20 @@ fn kept_logs_keep_the_properties_of_figure_1() {
     for (property, runs) in (1..=4).flat_map(|property| [16, 40].map(|runs| (property, runs))) {
         let verdicts = agreed_verdicts(&figure_1(property).file, &kept(property, runs).bytes, "kept");
         assert!(verdicts.len() == 2 * runs && verdicts.iter().all(|verdict| *verdict), "property {property}");
+    }
+}
+
+#[test]
+fn interleaved_logs_break_figure_1_and_begins_first_keeps_properties_1_and_3() {
+    for property in 1..=4 {
+        let rule = figure_1(property);
+        let labels = rule.labels();
+        for runs in [32, 128] {
+            let [mixed, first] = [interleaved(runs, &labels), begins_first(runs, &labels)]
+                .map(|log| agreed_with(&[PUBLISHED], &rule.file, &log.bytes, &rule.name));
+            assert!(mixed[0] && mixed.contains(&false), "{}, {runs} runs", rule.name);
+            assert_eq!(first.contains(&false), property % 2 == 0, "{}, {runs} runs", rule.name);
+        }
     }
 }
 

@@ -2,7 +2,7 @@
 //!
 //! Kinds of logs:
 //! - "interleaved": begins and ends mixed at random.
-//! - "begins first": all begin lines, then all end lines in a random order.
+//! - "begins first": all begin lines, then all end lines in a random order. Both have given labels in turn.
 //! - "section 6": as 000, section 6, makes its traces. Followed from there: the rule breaks at the last line and not before
 //!   ("creating the traces to be violated only at the last event"); at most three runs are open at a time ("the maximal number
 //!   of overlapping intervals [..] limit of 3"); the labels are none of the rule's, but for the runs that break it ("we set the
@@ -59,12 +59,12 @@ impl Writer {
     }
 
     /// Runs with these labels in turn, begins and ends mixed at random, at most `limit` open at a time. All are ended.
-    fn mixed(&mut self, runs: usize, labels: &[&str], limit: usize) {
+    fn mixed(&mut self, runs: usize, labels: &[impl AsRef<str>], limit: usize) {
         let until = self.begun + runs;
         while self.begun < until || !self.open.is_empty() {
             let may_begin = self.begun < until && self.open.len() < limit;
             if may_begin && (self.open.is_empty() || self.random.chance(1, 2)) {
-                self.begin(labels[self.begun % labels.len()]);
+                self.begin(labels[self.begun % labels.len()].as_ref());
             } else {
                 self.end_any();
             }
@@ -76,18 +76,28 @@ impl Writer {
     }
 }
 
-/// Begins and ends mixed at random.
-pub fn interleaved(runs: usize, labels: &[&str]) -> Log {
-    let mut writer = Writer::new(1);
+/// Begins and ends mixed at random; these labels in turn.
+pub fn interleaved(runs: usize, labels: &[impl AsRef<str>]) -> Log {
+    interleaved_by(1, runs, labels)
+}
+
+/// The interleaved log of this seed.
+pub fn interleaved_by(seed: u64, runs: usize, labels: &[impl AsRef<str>]) -> Log {
+    let mut writer = Writer::new(seed);
     writer.mixed(runs, labels, MAX_RUNS);
     writer.log("interleaved")
 }
 
-/// All begin lines, then all end lines in a random order.
-pub fn begins_first(runs: usize, labels: &[&str]) -> Log {
-    let mut writer = Writer::new(2);
+/// All begin lines, then all end lines in a random order; these labels in turn.
+pub fn begins_first(runs: usize, labels: &[impl AsRef<str>]) -> Log {
+    begins_first_by(2, runs, labels)
+}
+
+/// The begins-first log of this seed.
+pub fn begins_first_by(seed: u64, runs: usize, labels: &[impl AsRef<str>]) -> Log {
+    let mut writer = Writer::new(seed);
     for run in 0..runs {
-        writer.begin(labels[run % labels.len()]);
+        writer.begin(labels[run % labels.len()].as_ref());
     }
     for _ in 0..runs {
         writer.end_any();

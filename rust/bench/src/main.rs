@@ -7,6 +7,8 @@
 #[cfg(test)]
 mod agree;
 mod checks;
+#[cfg(test)]
+mod deep;
 mod logs;
 mod measure;
 mod plain;
@@ -40,6 +42,18 @@ fn both_kinds(rule: fn() -> Case) -> [Measured; 2] {
     [measured(rule(), |runs| interleaved(runs, &LABELS)), measured(rule(), |runs| begins_first(runs, &LABELS))]
 }
 
+/// A property of figure 1 on logs of all kinds. Interleaved logs and those whose begins come first have the rule's labels in turn.
+fn all_kinds(property: usize) -> [Measured; 4] {
+    let rule = || figure_1(property);
+    let (labels, same_labels) = (rule().labels(), rule().labels());
+    [
+        measured(rule(), move |runs| section_6_of_figure_1(property, runs)),
+        measured(rule(), move |runs| kept(property, runs)),
+        measured(rule(), move |runs| interleaved(runs, &labels)),
+        measured(rule(), move |runs| begins_first(runs, &same_labels)),
+    ]
+}
+
 /// The names of the groups, as `--group` takes them, and their headings.
 const GROUPS: [(&str, &str); 4] = [
     ("reading", "Reading"),
@@ -51,12 +65,7 @@ const GROUPS: [(&str, &str); 4] = [
 fn group(name: &str) -> Vec<Measured> {
     match name {
         "reading" => both_kinds(two_nodes).into(),
-        "figure1" => (1..=4)
-            .flat_map(|property| {
-                let section_6 = measured(figure_1(property), move |runs| section_6_of_figure_1(property, runs));
-                [section_6, measured(figure_1(property), move |runs| kept(property, runs))]
-            })
-            .collect(),
+        "figure1" => (1..=4).flat_map(all_kinds).collect(),
         "section3" => (1..=4)
             .flat_map(|property| {
                 let section_6 = measured(section_3(property), move |runs| section_6_of_section_3(property, runs));

@@ -1,6 +1,7 @@
 //! The rules that are measured.
 
 use reference::listing::rule_file;
+use reference::rule::read_rule;
 use std::fmt::Write;
 use std::fs;
 use std::path::Path;
@@ -10,6 +11,14 @@ pub struct Case {
     pub name: String,
     pub file: Vec<u8>,
     pub nested: usize,
+}
+
+impl Case {
+    /// The labels that the rule names.
+    pub fn labels(&self) -> Vec<String> {
+        let rule = read_rule(&self.file).expect("a legal rule");
+        rule.labels.into_iter().map(|label| String::from_utf8(label).expect("capitals, digits and _")).collect()
+    }
 }
 
 /// A rule of the lessons.
@@ -33,13 +42,19 @@ pub fn section_3(property: usize) -> Case {
 
 /// A listing that is being written. Each method adds a node and answers its number.
 #[derive(Default)]
-struct Listing {
+pub struct Listing {
     text: String,
     nodes: usize,
 }
 
 impl Listing {
-    fn node(&mut self, word: &str, fields: &[usize]) -> usize {
+    /// A listing that names these labels.
+    #[cfg(test)]
+    pub fn with_labels(labels: &[&str]) -> Listing {
+        Listing { text: labels.iter().map(|label| format!("label {label}\n")).collect(), nodes: 0 }
+    }
+
+    pub fn node(&mut self, word: &str, fields: &[usize]) -> usize {
         self.text += word;
         for field in fields {
             write!(self.text, " {field}").unwrap();
@@ -77,12 +92,18 @@ impl Listing {
         variables.iter().rev().fold(child, |child, variable| self.node("some", &[*variable, child]))
     }
 
+    /// The rule file.
+    pub fn file(&self) -> Vec<u8> {
+        rule_file(&self.text).expect("a legal rule")
+    }
+
     fn case(&self, name: &str) -> Case {
-        Case { name: name.into(), file: rule_file(&self.text).expect("a legal rule"), nested: 4 }
+        Case { name: name.into(), file: self.file(), nested: 4 }
     }
 }
 
-/// The smallest legal rule: some A, same A A. A log with it costs what reading the log costs.
+/// The smallest legal rule: some A, same A A. A log with it costs reading and the fixed cost of judging: finding the finish
+/// order, filling the table of rows and writing the verdict bytes.
 pub fn two_nodes() -> Case {
     let mut listing = Listing::default();
     let same = listing.node("same", &[0, 0]);

@@ -18,21 +18,55 @@ pub struct Row {
     pub growth: Option<f64>,
 }
 
+/// A time or a ratio, and whether all times that it rests on were taken.
+#[derive(Clone, Copy)]
+pub struct Number {
+    pub value: f64,
+    pub is_taken: bool,
+}
+
+impl Number {
+    fn time(time: Time) -> Number {
+        Number { value: time.seconds, is_taken: time.is_taken }
+    }
+
+    fn taken(value: f64) -> Number {
+        Number { value, is_taken: true }
+    }
+
+    fn ratio(time: Time, to: Time) -> Number {
+        Number { value: time.seconds / to.seconds, is_taken: time.is_taken && to.is_taken }
+    }
+
+    /// The number, with a mark where it is carried on from shorter logs.
+    pub fn shown(self, form: fn(f64) -> String) -> String {
+        format!("{}{}", if self.is_taken { "" } else { "~" }, form(self.value))
+    }
+}
+
 impl Row {
-    pub fn whole_to_reading(&self) -> f64 {
-        self.whole.seconds / self.reading
+    pub fn whole(&self) -> Option<Number> {
+        Some(Number::time(self.whole))
     }
 
-    pub fn single_to_reading(&self) -> Option<f64> {
-        self.single.map(|single| single / self.reading)
+    pub fn whole_to_reading(&self) -> Option<Number> {
+        Some(Number { value: self.whole.seconds / self.reading, is_taken: self.whole.is_taken })
     }
 
-    pub fn plain_to_proved(&self) -> f64 {
-        self.plain.seconds / self.whole.seconds
+    pub fn single_to_reading(&self) -> Option<Number> {
+        self.single.map(|single| Number::taken(single / self.reading))
     }
 
-    pub fn published_to_proved(&self) -> f64 {
-        self.published.seconds / self.whole.seconds
+    pub fn plain_to_proved(&self) -> Option<Number> {
+        Some(Number::ratio(self.plain, self.whole))
+    }
+
+    pub fn published_to_proved(&self) -> Option<Number> {
+        Some(Number::ratio(self.published, self.whole))
+    }
+
+    pub fn growth(&self) -> Option<Number> {
+        self.growth.map(Number::taken)
     }
 }
 
@@ -46,22 +80,21 @@ pub fn print_heading(title: &str) {
 }
 
 pub fn print_row(row: &Row) {
-    let ratio = |ratio: f64, of: &[Time]| format!("{}{}", mark(of), short(ratio));
-    let maybe = |number: Option<f64>, form: fn(f64) -> String| number.map_or("–".into(), form);
+    let shown = |number: Option<Number>, form| number.map_or("–".into(), |number| number.shown(form));
     let cells = [
         row.rule.clone(),
         row.log.into(),
         row.runs.to_string(),
-        time(row.whole),
-        maybe(row.single, seconds),
+        shown(row.whole(), seconds),
+        shown(row.single.map(Number::taken), seconds),
         seconds(row.reading),
-        ratio(row.whole_to_reading(), &[row.whole]),
-        maybe(row.single_to_reading(), short),
-        time(row.plain),
-        time(row.published),
-        ratio(row.plain_to_proved(), &[row.plain, row.whole]),
-        ratio(row.published_to_proved(), &[row.published, row.whole]),
-        maybe(row.growth, short),
+        shown(row.whole_to_reading(), short),
+        shown(row.single_to_reading(), short),
+        shown(Some(Number::time(row.plain)), seconds),
+        shown(Some(Number::time(row.published)), seconds),
+        shown(row.plain_to_proved(), short),
+        shown(row.published_to_proved(), short),
+        shown(row.growth(), short),
     ];
     println!("| {} |", cells.join(" | "));
 }
@@ -74,15 +107,6 @@ pub fn print_noise(noise: &Noise) {
     for (moment, shortest, spread) in &noise.0 {
         println!("| {moment} | {} | {spread:.2} |", seconds(*shortest));
     }
-}
-
-/// A mark for what is carried on from shorter logs.
-fn mark(times: &[Time]) -> &'static str {
-    if times.iter().all(|time| time.is_taken) { "" } else { "~" }
-}
-
-fn time(time: Time) -> String {
-    format!("{}{}", mark(&[time]), seconds(time.seconds))
 }
 
 /// A time in the unit that suits it.

@@ -5,6 +5,7 @@
  * A buffer is passed as a pointer and a length. A pointer is never NULL, not even with length 0. Buffers that are written
  * overlap no other buffer of the same call. Every call takes any bytes; a refusal has its number in docs/REFUSALS.md.
  * The calls keep nothing between them, so threads may use them at the same time, each with buffers of its own.
+ * A call takes at most about 200 KB of stack, which depends on how deep the rule is.
  */
 #ifndef SCENE_LOG_H
 #define SCENE_LOG_H

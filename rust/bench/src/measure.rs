@@ -8,7 +8,7 @@ use std::time::{Duration, Instant};
 
 /// A call is repeated for at least this long, and at least so often unless that takes too long.
 const AT_LEAST: Duration = Duration::from_millis(200);
-const REPEATS: usize = 3;
+const REPEATS: usize = 9;
 const LONG_ENOUGH: Duration = Duration::from_secs(3);
 
 /// No call is made that is expected to take longer, in seconds.

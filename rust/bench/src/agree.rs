@@ -42,6 +42,13 @@ fn agreed_with(baselines: &[(&str, Baseline)], rule: &[u8], log: &[u8], message:
     expected
 }
 
+/// The same on a whole log, of which no line is refused.
+fn all_agreed(baselines: &[(&str, Baseline)], rule: &[u8], log: &Log, message: &str) -> Vec<bool> {
+    let verdicts = agreed_with(baselines, rule, &log.bytes, message);
+    assert_eq!(verdicts.len(), 2 * log.runs, "every line is taken: {message}");
+    verdicts
+}
+
 /// How often the verdict changes from a line to the next.
 fn changes(verdicts: &[bool]) -> usize {
     verdicts.windows(2).filter(|two| two[0] != two[1]).count()
@@ -61,7 +68,7 @@ fn the_three_agree_on_generated_cases() {
     assert!(holds >= 1000 && fails >= 1000, "{holds} lines hold, {fails} fail");
 }
 
-/// Rules with two to four nested "some" on logs of up to 14 runs of both kinds: three of four from `deep`, the others from
+/// Rules with up to four nested "some" on logs of up to 14 runs of both kinds: three of four from `deep`, the others from
 /// `generate`.
 #[test]
 fn the_three_agree_on_small_logs_with_deep_rules() {
@@ -77,13 +84,13 @@ fn the_three_agree_on_small_logs_with_deep_rules() {
         let labels: Vec<&str> = (0..runs).map(|_| *random.pick(&LABELS)).collect();
         let is_for_matrix = runs >= 9 && has_open_pair(&read_rule(&rule).expect("a legal rule"));
         for log in [interleaved_by(!seed, runs, &labels), begins_first_by(!seed, runs, &labels)] {
-            let verdicts = agreed_verdicts(&rule, &log.bytes, &format!("seed {seed}, {}", log.kind));
+            let verdicts = all_agreed(&[PLAIN, PUBLISHED], &rule, &log, &format!("seed {seed}, {}", log.kind));
             changed += changes(&verdicts);
             for_matrix += usize::from(is_for_matrix);
             logs.insert(log.bytes);
         }
     }
-    assert!(logs.len() >= 10_000 && for_matrix >= 4000, "{} different logs, {for_matrix} rules for the matrix", logs.len());
+    assert!(logs.len() >= 10_000 && for_matrix >= 4000, "{} different logs, {for_matrix} of them for the matrix", logs.len());
     assert!(changed >= 5000, "{changed} changes of a verdict");
 }
 
@@ -105,7 +112,7 @@ fn proved_and_published_agree_on_logs_of_70_runs_with_deep_rules() {
         }
         let baselines = if seed % 16 < 2 { &[PUBLISHED, PLAIN][..] } else { &[PUBLISHED] };
         let log = log(&labels);
-        let verdicts = agreed_with(baselines, &rule, &log.bytes, &format!("seed {seed}, {}", log.kind));
+        let verdicts = all_agreed(baselines, &rule, &log, &format!("seed {seed}, {}", log.kind));
         changed += changes(&verdicts);
         changed_late += changes(&verdicts[from - 1..]);
         for_matrix += usize::from(has_open_pair(&read_rule(&rule).expect("a legal rule")));
@@ -131,19 +138,18 @@ fn late_runs(log: &Log) -> (Vec<usize>, usize) {
 fn the_three_agree_on_long_logs() {
     let log = interleaved(68, &LABELS);
     for rule in [two_nodes(), section_3(1), section_3(2), section_3(3), section_3(4), figure_1(2)] {
-        agreed_verdicts(&rule.file, &log.bytes, &rule.name);
+        all_agreed(&[PLAIN, PUBLISHED], &rule.file, &log, &rule.name);
     }
     for property in 1..=4 {
-        agreed_verdicts(&figure_1(property).file, &kept(property, 68).bytes, &format!("property {property}"));
+        all_agreed(&[PLAIN, PUBLISHED], &figure_1(property).file, &kept(property, 68), &format!("property {property}"));
     }
 }
 
-/// Four variables and rows of two words, without four nested loops for the others: "some A, B, C, D, p and q" is "some p and
+/// Four variables and rows of two words, without four nested loops for plain: "some A, B, C, D, p and q" is "some p and
 /// some q" where p and q share no variable. The log ends in a DL_MOBPRM that includes a DL_FAIL, the only one.
 #[test]
 fn a_rule_over_four_variables_is_its_two_halves() {
     let log = section_6_of_figure_1(2, 68);
-    let trace = Trace::read(&log.bytes);
     for [x, y, u, v] in [[0, 3, 1, 2], [3, 0, 2, 1], [1, 3, 0, 2], [2, 0, 3, 1], [0, 1, 2, 3], [2, 3, 1, 0]] {
         let halves = format!(
             "label DL_MOBPRM\nhas {x} 0\nincludes {x} {y}\nsome {y} 1\nand 0 2\nsome {x} 3\n\
@@ -153,10 +159,11 @@ fn a_rule_over_four_variables_is_its_two_halves() {
             "label DL_MOBPRM\nhas {x} 0\nincludes {x} {y}\nand 0 1\nbefore {u} {v}\nand 2 3\nnot 4\nnot 5\n\
              some 3 6\nsome 2 7\nsome 1 8\nsome 0 9\n"
         );
-        let expected = agreed_verdicts(&rule_file(&halves).expect("a legal rule"), &log.bytes, "halves");
+        let expected = all_agreed(&[PLAIN, PUBLISHED], &rule_file(&halves).expect("a legal rule"), &log, "halves");
         assert_eq!(expected.iter().position(|verdict| *verdict), Some(2 * log.runs - 1));
-        let rule = read_rule(&rule_file(&whole).expect("a legal rule")).expect("a legal rule");
-        assert_eq!(published::verdicts(&rule, &trace), expected, "variables {x}, {y} and {u}, {v}");
+        let message = format!("variables {x}, {y} and {u}, {v}");
+        let found = all_agreed(&[PUBLISHED], &rule_file(&whole).expect("a legal rule"), &log, &message);
+        assert_eq!(found, expected, "{message}");
     }
 }
 
@@ -176,7 +183,7 @@ fn most_open(log: &Log) -> usize {
 fn break_only_at_the_last_line(rule: fn(usize) -> Case, log: fn(usize, usize) -> Log) {
     for (property, runs) in (1..=4).flat_map(|property| [16, 33].map(|runs| (property, runs))) {
         let (rule, log) = (rule(property), log(property, runs));
-        let verdicts = agreed_verdicts(&rule.file, &log.bytes, &format!("{}, {runs} runs", rule.name));
+        let verdicts = all_agreed(&[PLAIN, PUBLISHED], &rule.file, &log, &format!("{}, {runs} runs", rule.name));
         assert_eq!((log.runs, verdicts.len()), (runs, 2 * runs));
         assert_eq!(verdicts.iter().position(|verdict| !verdict), Some(2 * runs - 1), "{}", rule.name);
         assert!(most_open(&log) <= 3, "{}", rule.name);
@@ -196,7 +203,7 @@ fn section_6_logs_break_the_properties_of_section_3_at_the_last_line_only() {
 #[test]
 fn kept_logs_keep_the_properties_of_figure_1() {
     for (property, runs) in (1..=4).flat_map(|property| [16, 40].map(|runs| (property, runs))) {
-        let verdicts = agreed_verdicts(&figure_1(property).file, &kept(property, runs).bytes, "kept");
+        let verdicts = all_agreed(&[PLAIN, PUBLISHED], &figure_1(property).file, &kept(property, runs), "kept");
         assert!(verdicts.len() == 2 * runs && verdicts.iter().all(|verdict| *verdict), "property {property}");
     }
 }
@@ -208,7 +215,7 @@ fn interleaved_logs_break_figure_1_and_begins_first_keeps_properties_1_and_3() {
         let labels = rule.labels();
         for runs in [32, 128] {
             let [mixed, first] = [interleaved(runs, &labels), begins_first(runs, &labels)]
-                .map(|log| agreed_with(&[PUBLISHED], &rule.file, &log.bytes, &rule.name));
+                .map(|log| all_agreed(&[PUBLISHED], &rule.file, &log, &rule.name));
             assert!(mixed[0] && mixed.contains(&false), "{}, {runs} runs", rule.name);
             assert_eq!(first.contains(&false), property % 2 == 0, "{}, {runs} runs", rule.name);
         }

@@ -20,7 +20,7 @@ rank r = record { 0 = r }
 abbrev pub binding : Bindings → Binding
 binding b v = getD (b .run) v (rank 0) .0
 
--- each variable stands for a place of runs or is marked
+-- each variable stands for a rank, or is marked for each run
 abbrev pub InRange : Bindings → Type 0
 InRange b = (v : ℕ) → binding b v ≤ each
 

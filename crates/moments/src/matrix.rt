@@ -139,7 +139,7 @@ pub fn start_rows(m: &mut [u64], runs: usize, dom: RunSet, keep: RunSet)
     }
 }
 
-// Whether no row has a moment.
+// Whether no row has a moment. Only a yes is promised: it saves work.
 pub fn no_rows(m: &[u64], runs: usize) -> bool
     requires { ⌜ 2 * runs ≤ length (now m) ⌝ }
     ensures { λ b. ⌜ (b ≡ true → (k : ℕ) → k < runs → (j : ℕ) → mem (rowOf (now (m .entry)) k) j ≡ false) ⌝ }

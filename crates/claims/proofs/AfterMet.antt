@@ -14,11 +14,12 @@ use Rattle.labels.specs.Label.{labelOf}
 use Rattle.labels.specs.Table.{withLabel}
 use Rattle.lines.specs.Event.{Event, begins, ends, faulty}
 use Rattle.lines.specs.Line.{eventOf}
-use Rattle.trace.specs.Trace.{Trace, next, refused, runAt, finish, Finished, begun?, endOf, begin, end, beginRun, endRun, apply, Accepted}
+use Rattle.trace.specs.Trace.{Trace, next, refused, runAt, endLine, Finished, begun?, endOf, begin, end, beginRun, endRun, apply, Accepted, step}
 use Rattle.trace.proofs.Accepted.{accepted-orderly}
 use Rattle.trace.proofs.Closed.{RunOf, begun-run, new-id}
 use Rattle.claims.specs.WhereMet.{HasId, NoRunHas, MetAfter, own-bytes, begun-before, run-129, label-65, never-begun, ended-before}
 use Rattle.claims.proofs.Numbers.{same-number, no-refusal}
+use Rattle.trace.proofs.Taken.{step-is}
 
 module _ (log : List ℕ) (t : Trace) (a : Accepted log t) where
   -- ── the run of an id ──
@@ -46,10 +47,10 @@ module _ (log : List ℕ) (t : Trace) (a : Accepted log t) where
         (λ m. absurd (o .ids k j m (g .begun) (h .named ∙ sym (g .named))))
         (λ m. omega arith))
 
-    end-is : (k : ℕ) → HasId t i k → endOf i (t .runs) ≡ finish (runAt t k)
+    end-is : (k : ℕ) → HasId t i k → endOf i (t .runs) ≡ endLine (runAt t k)
     end-is k h =
         let g : RunOf i (t .runs) = begun-run i (t .runs) (is-begun k h) in
-        sym (g .ends) ∙ ap (λ (j : ℕ). finish (runAt t j)) (one-run (g .at) k (record { begun = g .low; named = g .named }) h)
+        sym (g .ends) ∙ ap (λ (j : ℕ). endLine (runAt t j)) (one-run (g .at) k (record { begun = g .low; named = g .named }) h)
 
   -- ── a refused line meets its number ──
   module _ (line : List ℕ) (c : ℕ) where
@@ -76,9 +77,9 @@ module _ (log : List ℕ) (t : Trace) (a : Accepted log t) where
             ended-before i v (h .0) (h .1) (omega (arith, end-is i (h .0) (h .1))) (sym (same-number c 17 e))
         go false p y q e = never-begun i v (no-run i p) (sym (same-number c 16 e))
 
-    forth : apply t (eventOf line) ≡ refused c → MetAfter t line c
+    forth : step (next t) line ≡ refused c → MetAfter t line c
     unfolding apply
-    forth e = go (eventOf line) refl e
+    forth e = go (eventOf line) refl (sym (step-is t line) ∙ e)
       where
         go : (v : Event) → eventOf line ≡ v → apply t v ≡ refused c → MetAfter t line c
         go (begins i l) q e = begin-met i l q e
@@ -106,14 +107,14 @@ module _ (log : List ℕ) (t : Trace) (a : Accepted log t) where
     unfolding endRun
     end-17 i k h f = simp (is-begun i k h, ne-eqb (endOf i (t .runs)) 0 (λ z. omega (arith, end-is i k h)))
 
-    back : MetAfter t line c → apply t (eventOf line) ≡ refused c
+    back : MetAfter t line c → step (next t) line ≡ refused c
     unfolding apply
-    back (own-bytes e) = ap (apply t) e
-    back (begun-before i l v k h e) = ap (apply t) v ∙ (begin-15 i (labelOf l) k h ∙ ap refused (sym e))
-    back (run-129 i l v n m e) = ap (apply t) v ∙ (begin-18 i (labelOf l) n m ∙ ap refused (sym e))
-    back (label-65 i l v n m k e) = ap (apply t) v ∙ (begin-19 i (labelOf l) n m k ∙ ap refused (sym e))
-    back (never-begun i v n e) = ap (apply t) v ∙ (end-16 i n ∙ ap refused (sym e))
-    back (ended-before i v k h f e) = ap (apply t) v ∙ (end-17 i k h f ∙ ap refused (sym e))
+    back (own-bytes e) = step-is t line ∙ ap (apply t) e
+    back (begun-before i l v k h e) = step-is t line ∙ (ap (apply t) v ∙ (begin-15 i (labelOf l) k h ∙ ap refused (sym e)))
+    back (run-129 i l v n m e) = step-is t line ∙ (ap (apply t) v ∙ (begin-18 i (labelOf l) n m ∙ ap refused (sym e)))
+    back (label-65 i l v n m k e) = step-is t line ∙ (ap (apply t) v ∙ (begin-19 i (labelOf l) n m k ∙ ap refused (sym e)))
+    back (never-begun i v n e) = step-is t line ∙ (ap (apply t) v ∙ (end-16 i n ∙ ap refused (sym e)))
+    back (ended-before i v k h f e) = step-is t line ∙ (ap (apply t) v ∙ (end-17 i k h f ∙ ap refused (sym e)))
 
-    pub after-met : (apply t (eventOf line) ≡ refused c) ↔ MetAfter t line c
+    pub after-met : (step (next t) line ≡ refused c) ↔ MetAfter t line c
     after-met = (forth, back)

@@ -1,6 +1,6 @@
 -- Which numbers a line can be refused with.
 use Prim.Native.Nat.{ℕ, _≤_}
-use mathlib.Core.Path.{_≡_, refl}
+use mathlib.Core.Path.{_≡_, refl, sym, _∙_}
 use mathlib.Core.Bool.{Bool, true, false, cond}
 use mathlib.Core.List.{List}
 use native.Mathlib.Omega.{arith}
@@ -12,7 +12,8 @@ use Rattle.labels.specs.Table.{withLabel}
 use Rattle.lines.specs.Event.{Event, begins, ends, faulty}
 use Rattle.lines.specs.Line.{eventOf}
 use Rattle.lines.proofs.Event.{event-refusal}
-use Rattle.trace.specs.Trace.{Trace, next, refused, begun?, endOf, begin, end, beginRun, endRun, apply}
+use Rattle.trace.specs.Trace.{Trace, next, refused, begun?, endOf, begin, end, beginRun, endRun, apply, step}
+use Rattle.trace.proofs.Taken.{step-is}
 
 abbrev InLines : ℕ → Type 0
 InLines c = (11 ≤ c) × (c ≤ 19)
@@ -43,9 +44,9 @@ end-number t i c e = go (begun? i (t .runs)) (eqb (endOf i (t .runs)) 0) e
     go false b e = let f = same-number c 16 e in omega arith
 
 -- a line is refused with one of 11 to 19
-pub line-number : (t : Trace) (l : List ℕ) (c : ℕ) → apply t (eventOf l) ≡ refused c → (11 ≤ c) × (c ≤ 19)
+pub line-number : (t : Trace) (l : List ℕ) (c : ℕ) → step (next t) l ≡ refused c → (11 ≤ c) × (c ≤ 19)
 unfolding apply
-line-number t l c e = go (eventOf l) refl e
+line-number t l c e = go (eventOf l) refl (sym (step-is t l) ∙ e)
   where
     go : (v : Event) → eventOf l ≡ v → apply t v ≡ refused c → InLines c
     go (begins i s) q e = begin-number t i (labelOf s) c e

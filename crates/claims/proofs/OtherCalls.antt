@@ -20,6 +20,7 @@ use Rattle.trace.specs.declared.Record.{Record}
 use Rattle.trace.specs.declared.RunNo.{RunNo}
 use Rattle.trace.specs.Trace.{Trace}
 use Rattle.trace.specs.Record.{Valid}
+use Rattle.pairs.specs.Grid.{workSize}
 use Rattle.pairs.specs.Start.{startOf}
 use Rattle.pairs.specs.declared.Started.{Started}
 use Rattle.pairs.specs.declared.Start.the-variants as Start
@@ -43,20 +44,20 @@ same-start c d e = cc
 not-ready : {C : Type 0} (c : ℕ) → Start.Ready ≡ Start.Refused c → C
 not-ready c e = absurd (let z : _≡_ {A = ℕ} 0 1 = cc in omega arith)
 
-start-of-met : (w : List ℕ) (c : ℕ) → (startOf w .0 .outcome ≡ Start.Refused c) ↔ ((length w < 16384) × (c ≡ 20))
+start-of-met : (w : List ℕ) (c : ℕ) → (startOf w .0 .outcome ≡ Start.Refused c) ↔ ((length w < workSize) × (c ≡ 20))
 unfolding startOf
-start-of-met w c = (forth, λ p. simp (lt-ltb (length w) 16384 (p .0)) (ap Start.Refused (sym (p .1))))
+start-of-met w c = (forth, λ p. simp (lt-ltb (length w) workSize (p .0)) (ap Start.Refused (sym (p .1))))
   where
-    forth : startOf w .0 .outcome ≡ Start.Refused c → (length w < 16384) × (c ≡ 20)
-    forth = either-lt (length w) 16384 (λ s. simp (lt-ltb _ _ s) (λ e. (s, sym (same-start c 20 e)))) (λ s. simp (le-ltb _ _ s) (λ e. not-ready c e))
+    forth : startOf w .0 .outcome ≡ Start.Refused c → (length w < workSize) × (c ≡ 20)
+    forth = either-lt (length w) workSize (λ s. simp (lt-ltb _ _ s) (λ e. (s, sym (same-start c 20 e)))) (λ s. simp (le-ltb _ _ s) (λ e. not-ready c e))
 
 start-of-kept : (w : List ℕ) (c : ℕ) → startOf w .0 .outcome ≡ Start.Refused c → startOf w .1 ≡ w
 unfolding startOf
-start-of-kept w c e = simp (lt-ltb (length w) 16384 (start-of-met w c .0 e .0))
+start-of-kept w c e = simp (lt-ltb (length w) workSize (start-of-met w c .0 e .0))
 
 module _ (w : List ℕ) (a : Started) (w′ : List ℕ) (h : _≡_ {A = Started × List ℕ} (a, w′) (startOf w)) (c : ℕ) where
-  pub start-met : (a .outcome ≡ Start.Refused c) ↔ ((length w < 16384) × (c ≡ 20))
-  start-met = subst (λ (z : Started × List ℕ). (z .0 .outcome ≡ Start.Refused c) ↔ ((length w < 16384) × (c ≡ 20))) (sym h) (start-of-met w c)
+  pub start-met : (a .outcome ≡ Start.Refused c) ↔ ((length w < workSize) × (c ≡ 20))
+  start-met = subst (λ (z : Started × List ℕ). (z .0 .outcome ≡ Start.Refused c) ↔ ((length w < workSize) × (c ≡ 20))) (sym h) (start-of-met w c)
 
   pub start-kept : a .outcome ≡ Start.Refused c → w′ ≡ w
   start-kept = subst (λ (z : Started × List ℕ). z .0 .outcome ≡ Start.Refused c → z .1 ≡ w) (sym h) (start-of-kept w c)
@@ -70,17 +71,17 @@ not-reported n c e = absurd (let z : _≡_ {A = ℕ} 0 1 = cc in omega arith)
 
 module _ (w out text : List ℕ) where
   abbrev short? : Bool
-  short? = ltb (length w) 16384 || (ltb (length out) 256 || ltb (length text) 2048)
+  short? = ltb (length w) workSize || (ltb (length out) 256 || ltb (length text) 2048)
 
   abbrev LongEnough : Type 0
-  LongEnough = (16384 ≤ length w) × (256 ≤ length out) × (2048 ≤ length text)
+  LongEnough = (workSize ≤ length w) × (256 ≤ length out) × (2048 ≤ length text)
 
   long-enough : LongEnough → short? ≡ false
   long-enough h = simp (le-ltb _ _ (h .0), le-ltb _ _ (h .1), le-ltb _ _ (h .2))
 
   too-short : (LongEnough → ⊥) → short? ≡ true
   too-short n =
-      either-lt (length w) 16384
+      either-lt (length w) workSize
       (λ a. simp (lt-ltb _ _ a))
       (λ a.
       either-lt (length out) 256

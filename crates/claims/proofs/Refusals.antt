@@ -9,13 +9,13 @@ use lib.Dec.{ltb}
 use lib.ListN.{length}
 use borrow.Author.Tests.{lt-ltb, le-ltb}
 use Rattle.lists.proofs.Cases.{either-lt, either-bool}
-use Rattle.lines.specs.Line.{eventOf}
 use Rattle.lines.specs.Log.{linesOf, placeAfter}
 use Rattle.lines.specs.declared.Next.{Next}
 use Rattle.lines.proofs.Event.{event-refusal}
 use Rattle.trace.specs.declared.Record.{Record}
-use Rattle.trace.specs.Trace.{Trace, Answer, next, refused, noTrace, apply}
+use Rattle.trace.specs.Trace.{Trace, Answer, next, refused, noTrace, step}
 use Rattle.trace.specs.Record.{recordOf}
+use Rattle.pairs.specs.Grid.{workSize}
 use Rattle.pairs.specs.Pairs.{workOf}
 use Rattle.rules.specs.declared.Rule.{Rule}
 use Rattle.rules.specs.declared.RuleRead.{RuleRead}
@@ -23,15 +23,15 @@ use Rattle.rules.specs.declared.RuleRead.the-variants as RuleRead
 use Rattle.rules.specs.Rules.{ruleOf, formulaOf}
 use Rattle.rules.proofs.Rules.{reads-rule}
 use Rattle.logic.specs.Verdict.{verdictOf}
-use Rattle.monitor.specs.declared.Outcome.the-variants.{Refused}
-use Rattle.monitor.specs.declared.Checked.{Checked}
-use Rattle.monitor.specs.declared.Tally.{Tally}
-use Rattle.monitor.specs.declared.Tallied.{Tallied}
+use Rattle.single.specs.declared.Outcome.the-variants.{Refused}
+use Rattle.single.specs.declared.Checked.{Checked}
+use Rattle.tallies.specs.declared.Tally.{Tally}
+use Rattle.tallies.specs.declared.Tallied.{Tallied}
 use Rattle.reading.specs.declared.LogRead.{LogRead}
 use Rattle.reading.specs.declared.Ending.the-variants as Ending
-use Rattle.monitor.specs.Handed.{HandedBy, Reached}
-use Rattle.monitor.specs.Line.{refusing, lineAfter, advanceOf, stateOf, withRule, lineOf, ChecksLine}
-use Rattle.monitor.specs.Tally.{refusingWith, counts?, talliedAfter, talliedState, talliedOf, ChecksTallied}
+use Rattle.single.specs.Handed.{HandedBy, Reached}
+use Rattle.single.specs.Line.{refusing, lineAfter, advanceOf, stateOf, withRule, lineOf, ChecksLine}
+use Rattle.tallies.specs.Tally.{refusingWith, counts?, talliedAfter, talliedState, talliedOf, ChecksTallied}
 use Rattle.reading.specs.Reading.{ended}
 use Rattle.monitor.specs.Log.{notRead, linesFrom, logOf, ChecksLog}
 use Rattle.claims.specs.Demands.{Listed, LogRefused, unread, stopped, Demand1}
@@ -58,9 +58,9 @@ module _ (r : Record) (w : List ℕ) where
 
   kept-line : (file : List ℕ) (x : Rule) (t : Trace) (line : List ℕ) → r ≡ recordOf t → LineKept (advanceOf file x t w line)
   unfolding lineAfter
-  kept-line file x t line s = go (apply t (eventOf line)) refl
+  kept-line file x t line s = go (step (next t) line) refl
     where
-      go : (a : Answer) → apply t (eventOf line) ≡ a → LineKept (lineAfter file x t w a)
+      go : (a : Answer) → step (next t) line ≡ a → LineKept (lineAfter file x t w a)
       go (next u) q c e = not-judged (verdictOf u (formulaOf file x)) c e
       go (refused d) q c e =
           let f = same-refusal c d e in
@@ -75,11 +75,11 @@ module _ (r : Record) (w : List ℕ) where
 line-kept : (file : List ℕ) (r : Record) (w line : List ℕ) (k : Option Trace) → (Reached file w → HandedBy r w k) → LineKept r w (lineOf file r w line k)
 unfolding lineOf withRule
 line-kept file r w line k h =
-    either-lt (length w) 16384
+    either-lt (length w) workSize
     (λ s. simp (lt-ltb _ _ s) (kept-refusal r w 20 (omega arith)))
     (λ s. simp (le-ltb _ _ s) (go (ruleOf file) refl s))
   where
-    go : (q : RuleRead) → ruleOf file ≡ q → 16384 ≤ length w → LineKept r w (withRule q (λ n. (refusing r n, w)) (λ x. stateOf file x r w line k))
+    go : (q : RuleRead) → ruleOf file ≡ q → workSize ≤ length w → LineKept r w (withRule q (λ n. (refusing r n, w)) (λ x. stateOf file x r w line k))
     go (RuleRead.Refused n) q s = kept-refusal r w n (rule-number file n q)
     go (RuleRead.Rule x) q s = kept-state r w file x line k (h (record { long = s; rule = x; taken = q }))
 
@@ -91,11 +91,11 @@ module _ (r : Record) (y : Tally) (w : List ℕ) where
   tally-refusal : (n : ℕ) → Listed n → TallyKept (refusingWith r y n, w)
   tally-refusal n l c e = let f = same-refusal c n e in (omega (arith, l), (λ i. (refusingWith r y (f i), w)))
 
-  tally-line : (file : List ℕ) (x : Rule) (t : Trace) (line : List ℕ) → r ≡ recordOf t → TallyKept (talliedAfter file x t y w (apply t (eventOf line)))
+  tally-line : (file : List ℕ) (x : Rule) (t : Trace) (line : List ℕ) → r ≡ recordOf t → TallyKept (talliedAfter file x t y w (step (next t) line))
   unfolding talliedAfter
-  tally-line file x t line s = go (apply t (eventOf line)) refl
+  tally-line file x t line s = go (step (next t) line) refl
     where
-      go : (a : Answer) → apply t (eventOf line) ≡ a → TallyKept (talliedAfter file x t y w a)
+      go : (a : Answer) → step (next t) line ≡ a → TallyKept (talliedAfter file x t y w a)
       go (next u) q c e = not-judged (verdictOf u (formulaOf file x)) c e
       go (refused d) q c e =
           let f = same-refusal c d e in
@@ -113,11 +113,11 @@ module _ (r : Record) (y : Tally) (w : List ℕ) where
 tallied-kept : (file : List ℕ) (r : Record) (y : Tally) (w line : List ℕ) (k : Option Trace) → (Reached file w → HandedBy r w k) → TallyKept r y w (talliedOf file r y w line k)
 unfolding talliedOf withRule
 tallied-kept file r y w line k h =
-    either-lt (length w) 16384
+    either-lt (length w) workSize
     (λ s. simp (lt-ltb _ _ s) (tally-refusal r y w 20 (omega arith)))
     (λ s. simp (le-ltb _ _ s) (go (ruleOf file) refl s))
   where
-    go : (q : RuleRead) → ruleOf file ≡ q → 16384 ≤ length w → TallyKept r y w (withRule q (λ n. (refusingWith r y n, w)) (λ x. talliedState file x r y w line k))
+    go : (q : RuleRead) → ruleOf file ≡ q → workSize ≤ length w → TallyKept r y w (withRule q (λ n. (refusingWith r y n, w)) (λ x. talliedState file x r y w line k))
     go (RuleRead.Refused n) q s = tally-refusal r y w n (rule-number file n q)
     go (RuleRead.Rule x) q s = tally-state r y w file x line k (h (record { long = s; rule = x; taken = q }))
 
@@ -128,7 +128,7 @@ LogKept file log w out c n = Listed c × LogRefused file log w out c n (logOf fi
 log-of-kept : (file log w out : List ℕ) (c n : ℕ) → logOf file log w out .0 .ending ≡ Ending.Refused c n → LogKept file log w out c n
 unfolding logOf withRule first-refused
 log-of-kept file log w out c n e =
-    either-bool (ltb (length w) 16384 || ltb (length out) 256)
+    either-bool (ltb (length w) workSize || ltb (length out) 256)
     (λ s. not-touched 20 (omega arith) (simp s))
     (λ s. go (ruleOf file) refl s)
   where
@@ -138,11 +138,11 @@ log-of-kept file log w out c n e =
         (omega (arith, l, p .0), unread (sym (p .1)) (ap (λ (z : End). z .0) q ∙ ap notRead (p .0)) (ap (λ (z : End). z .1) q) (ap (λ (z : End). z .2) q))
 
     -- the rule is taken and the buffers are long enough: the lines are read
-    read-first : (l : List ℕ) (x : Rule) → ruleOf file ≡ RuleRead.Rule x → ltb (length w) 16384 || ltb (length out) 256 ≡ false
+    read-first : (l : List ℕ) (x : Rule) → ruleOf file ≡ RuleRead.Rule x → ltb (length w) workSize || ltb (length out) 256 ≡ false
         → logOf file l w out ≡ linesFrom file x noTrace (linesOf l) w out
     read-first l x r s = simp s (ap (λ (z : RuleRead). withRule {A = End} z (λ n. (notRead n, w, out)) (λ x. linesFrom file x noTrace (linesOf l) w out)) r)
 
-    go : (q : RuleRead) → ruleOf file ≡ q → ltb (length w) 16384 || ltb (length out) 256 ≡ false → LogKept file log w out c n
+    go : (q : RuleRead) → ruleOf file ≡ q → ltb (length w) workSize || ltb (length out) 256 ≡ false → LogKept file log w out c n
     go (RuleRead.Refused m) r s =
         not-touched m (rule-number file m r)
         (simp s (ap (λ (z : RuleRead). withRule {A = End} z (λ n. (notRead n, w, out)) (λ x. linesFrom file x noTrace (linesOf log) w out)) r))

@@ -4,10 +4,9 @@ use mathlib.Core.Path.{_≡_, refl, ap, sym, _∙_}
 use mathlib.Core.List.{List, [], _∷_, _++_}
 use native.Mathlib.Omega.{arith}
 use lib.ListN.{length, set}
-use Rattle.lines.specs.Line.{eventOf}
 use Rattle.lines.specs.Log.{linesOf}
-use Rattle.trace.specs.Trace.{Trace, Answer, next, refused, noTrace, apply, applyTo, step, steps, Accepted}
-use Rattle.trace.proofs.Taken.{step-lines}
+use Rattle.trace.specs.Trace.{Trace, Answer, next, refused, noTrace, step, steps, Accepted}
+use Rattle.trace.proofs.Taken.{line-lines}
 use Rattle.trace.proofs.Grown.{no-bytes, flat}
 use Rattle.pairs.specs.Pairs.{workOf}
 use Rattle.rules.specs.declared.Rule.{Rule}
@@ -15,10 +14,10 @@ use Rattle.rules.specs.Rules.{formulaOf}
 use Rattle.logic.specs.declared.Verdict.{Verdict}
 use Rattle.logic.specs.declared.Verdict.the-variants as Verdict
 use Rattle.logic.specs.Verdict.{verdictByte, verdictOf}
-use Rattle.monitor.specs.declared.Outcome.the-variants.{Holds, Fails, Refused}
+use Rattle.single.specs.declared.Outcome.the-variants.{Holds, Fails, Refused}
 use Rattle.reading.specs.declared.Ending.the-variants as Ending
 use Rattle.reading.specs.declared.LogRead.{LogRead}
-use Rattle.monitor.specs.Line.{judged}
+use Rattle.single.specs.Line.{judged}
 use Rattle.reading.specs.Reading.{ended}
 use Rattle.monitor.specs.Log.{linesFrom}
 use Rattle.monitor.proofs.Lines.{from-none, from-taken, from-refused}
@@ -56,28 +55,24 @@ module _ (file : List ℕ) (x : Rule) (w : List ℕ) where
     pub leaves : steps (next t) before ≡ next trace
     pub counted : trace .lines ≡ t .lines + length before
     pub at : n ≡ trace .lines + 1
-    pub why : apply trace (eventOf line) ≡ refused c
+    pub why : step (next trace) line ≡ refused c
     pub kept : linesFrom file x t before w out ≡ (ended trace Ending.Read, workOf (trace .runs) w, out′)
     pub answer : linesFrom file x t ls w out ≡ (ended trace (Ending.Refused c n), workOf (trace .runs) w, out′)
 
   next-out : Trace → Trace → List ℕ → List ℕ
   next-out t u out = set out (t .lines) (verdictByte (verdictOf u (formulaOf file x)))
 
-  step-taken : (t u : Trace) (l : List ℕ) → apply t (eventOf l) ≡ next u → step (next t) l ≡ next u
-  unfolding step applyTo
-  step-taken t u l e = e
-
   pub stops : (ls : List (List ℕ)) (t : Trace) (out : List ℕ) (c n : ℕ) → linesFrom file x t ls w out .0 .ending ≡ Ending.Refused c n → Stopped t ls out c n
   unfolding next-out
   stops [] t out c n e = not-read-to-end c n (sym (ap (λ (a : End). a .0 .ending) (from-none file x t w out)) ∙ e)
-  stops (l ∷ ls) t out c n e = go (apply t (eventOf l)) refl (λ u q. stops ls u (next-out t u out) c n)
+  stops (l ∷ ls) t out c n e = go (step (next t) l) refl (λ u q. stops ls u (next-out t u out) c n)
     where
-      go : (a : Answer) → apply t (eventOf l) ≡ a
-          → ((u : Trace) → apply t (eventOf l) ≡ next u → linesFrom file x u ls w (next-out t u out) .0 .ending ≡ Ending.Refused c n → Stopped u ls (next-out t u out) c n) → Stopped t (l ∷ ls) out c n
+      go : (a : Answer) → step (next t) l ≡ a
+          → ((u : Trace) → step (next t) l ≡ next u → linesFrom file x u ls w (next-out t u out) .0 .ending ≡ Ending.Refused c n → Stopped u ls (next-out t u out) c n) → Stopped t (l ∷ ls) out c n
       go (next u) q rest =
           let f = from-taken file x t l ls w out u q in
           let g : Stopped u ls (next-out t u out) c n = rest u q (sym (ap (λ (a : End). a .0 .ending) f) ∙ e) in
-          let m = step-lines t u (eventOf l) q in
+          let m = line-lines t u l q in
           record {
             before = l ∷ g .before;
             line = g .line;
@@ -85,7 +80,7 @@ module _ (file : List ℕ) (x : Rule) (w : List ℕ) where
             trace = g .trace;
             out′ = g .out′;
             lines = ap (λ (z : List (List ℕ)). l ∷ z) (g .lines);
-            leaves = ap (λ (a : Answer). steps a (g .before)) (step-taken t u l q) ∙ g .leaves;
+            leaves = ap (λ (a : Answer). steps a (g .before)) q ∙ g .leaves;
             counted = omega (arith, g .counted);
             at = g .at;
             why = g .why;

@@ -7,11 +7,11 @@ use mathlib.Core.Option.{some}
 use lib.ListN.{length}
 use borrow.Author.Tests.{lt-ltb, le-ltb}
 use Rattle.lists.proofs.Cases.{either-lt}
-use Rattle.lines.specs.Line.{eventOf}
 use Rattle.lines.specs.Log.{linesOf}
 use Rattle.trace.specs.declared.Record.{Record}
 use Rattle.trace.specs.declared.Run.{Run}
-use Rattle.trace.specs.Trace.{Trace, Answer, next, noTrace, apply, read, steps, Accepted}
+use Rattle.trace.specs.Trace.{Trace, Answer, next, noTrace, read, steps, Accepted, step}
+use Rattle.pairs.specs.Grid.{workSize}
 use Rattle.pairs.specs.declared.Started.{Started}
 use Rattle.pairs.specs.Pairs.{pairByte, workOf}
 use Rattle.pairs.specs.Start.{startOf}
@@ -25,26 +25,26 @@ use Rattle.rules.specs.Rules.{ruleOf, formulaOf, Taken}
 use Rattle.rules.proofs.Rules.{reads-rule}
 use Rattle.logic.specs.declared.Verdict.{Verdict}
 use Rattle.logic.specs.Verdict.{verdictOf}
-use Rattle.monitor.specs.declared.Checked.{Checked}
-use Rattle.monitor.specs.declared.Tally.{Tally}
-use Rattle.monitor.specs.declared.Tallied.{Tallied}
-use Rattle.monitor.specs.Tally.{counts?, untallied, ChecksTallied}
+use Rattle.single.specs.declared.Checked.{Checked}
+use Rattle.tallies.specs.declared.Tally.{Tally}
+use Rattle.tallies.specs.declared.Tallied.{Tallied}
+use Rattle.tallies.specs.Tally.{counts?, untallied, ChecksTallied}
 use Rattle.reading.specs.declared.Ending.the-variants as Ending
 use Rattle.reading.specs.Left.{Left}
-use Rattle.monitor.specs.Line.{judged, lineAfter, stateOf, lineOf, TakenLine, ChecksLine}
+use Rattle.single.specs.Line.{judged, lineAfter, stateOf, lineOf, TakenLine, ChecksLine}
 use Rattle.reading.specs.Reading.{ended}
 use Rattle.monitor.specs.Log.{linesFrom, logOf}
 use Rattle.monitor.specs.Repeated.{Result}
-use Rattle.monitor.proofs.LineMeans.{verdict-says}
-use Rattle.monitor.proofs.LineCall.{with-taken}
+use Rattle.single.proofs.LineMeans.{verdict-says}
+use Rattle.single.proofs.LineCall.{with-taken}
 use Rattle.reading.proofs.Settled.{work-over}
-use Rattle.reading.proofs.Lines.{by-answer}
+use Rattle.trace.proofs.Taken.{by-answer}
 use Rattle.monitor.proofs.Lines.{from-none, from-taken}
 use Rattle.reading.proofs.Lines.{same-trace, after-line, no-line}
 use Rattle.reading.proofs.Standing.{pairs-long}
-use Rattle.monitor.proofs.TallyLaws.{tallied-is-line}
+use Rattle.tallies.proofs.TallyLaws.{tallied-is-line}
 use Rattle.monitor.proofs.Repeated.{left-by}
-use Rattle.monitor.proofs.Failing.{tally-starts, tally-taken}
+use Rattle.tallies.proofs.Failing.{tally-starts, tally-taken}
 use Rattle.claims.specs.Demands.{Settled, GoesOn, Demand2}
 
 rule-taken : (file : List ℕ) (x : Rule) → ruleOf file ≡ RuleRead.Rule x → Taken file x
@@ -68,7 +68,7 @@ settled file x e log t a =
     }
 
 -- a record that is started is that of the log of no bytes
-started : (w : List ℕ) (a : Started) (w′ : List ℕ) → _≡_ {A = Started × List ℕ} (a, w′) (startOf w) → 16384 ≤ length w → Left [] noTrace (a .state) w′
+started : (w : List ℕ) (a : Started) (w′ : List ℕ) → _≡_ {A = Started × List ℕ} (a, w′) (startOf w) → workSize ≤ length w → Left [] noTrace (a .state) w′
 unfolding startOf
 started w a w′ e h =
     subst (λ (z : Started × List ℕ). Left [] noTrace (z .0 .state) (z .1)) (sym e) (simp (le-ltb _ _ h) (left-by [] noTrace no-bytes w))
@@ -88,10 +88,10 @@ line-goes-on file x e log t r w line l a w′ h v o =
     }
 
 line-takes : (file : List ℕ) (x : Rule) → ruleOf file ≡ RuleRead.Rule x → (log : List ℕ) (t : Trace) (r : Record) (w line : List ℕ) → Left log t r w
-    → (a : Checked) (w′ : List ℕ) → ChecksLine file r w line a w′ → (u : Trace) → apply t (eventOf line) ≡ next u → a .outcome ≡ judged (verdictOf u (formulaOf file x))
+    → (a : Checked) (w′ : List ℕ) → ChecksLine file r w line a w′ → (u : Trace) → step (next t) line ≡ next u → a .outcome ≡ judged (verdictOf u (formulaOf file x))
 unfolding lineOf stateOf lineAfter
 line-takes file x e log t r w line l a w′ h u p =
-    let s : lineOf file r w line (some t) ≡ stateOf file x r w line (some t) = simp (le-ltb (length w) 16384 (pairs-long (t .runs) w w (l .pairs))) (with-taken (ruleOf file) x _ _ e) in
+    let s : lineOf file r w line (some t) ≡ stateOf file x r w line (some t) = simp (le-ltb (length w) workSize (pairs-long (t .runs) w w (l .pairs))) (with-taken (ruleOf file) x _ _ e) in
     ap (λ (z : Checked × List ℕ). z .0 .outcome) (h .answer (some t) (λ _. (log, l)) ∙ s) ∙ ap (λ (z : Answer). lineAfter file x t w z .0 .outcome) p
 
 same-answers : (file : List ℕ) (log : List ℕ) (t : Trace) (r : Record) (y : Tally) (w line : List ℕ) → Left log t r w → counts? t y ≡ true
@@ -116,7 +116,7 @@ module _ (file : List ℕ) (x : Rule) (w : List ℕ) where
       ap (λ (z : Result). z .0) f ∙ to-end ls v u _ (after-line t v u l ls p e))
       (λ c p. no-line t u c l ls p e)
 
-log-read : (file : List ℕ) (x : Rule) → ruleOf file ≡ RuleRead.Rule x → (log : List ℕ) (t : Trace) → Accepted log t → (w out : List ℕ) → 16384 ≤ length w → 256 ≤ length out
+log-read : (file : List ℕ) (x : Rule) → ruleOf file ≡ RuleRead.Rule x → (log : List ℕ) (t : Trace) → Accepted log t → (w out : List ℕ) → workSize ≤ length w → 256 ≤ length out
     → logOf file log w out .0 ≡ ended t Ending.Read
 unfolding logOf read
 log-read file x e log t a w out long room =

@@ -11,30 +11,30 @@ use lib.Dec.{ltb}
 use lib.ListN.{length}
 use borrow.Author.Tests.{lt-ltb, le-ltb}
 use Rattle.lists.proofs.Cases.{either-lt, either-bool}
-use Rattle.lines.specs.Line.{eventOf}
 use Rattle.lines.specs.Log.{linesOf}
 use Rattle.trace.specs.declared.Record.{Record}
-use Rattle.trace.specs.Trace.{Trace, Answer, next, refused, noTrace, apply, read, steps}
-use Rattle.trace.proofs.Taken.{step-lines}
+use Rattle.trace.specs.Trace.{Trace, Answer, next, refused, noTrace, read, steps, step}
+use Rattle.trace.proofs.Taken.{line-lines}
 use Rattle.rules.specs.declared.Rule.{Rule}
 use Rattle.rules.specs.declared.RuleRead.{RuleRead}
 use Rattle.rules.specs.declared.RuleRead.the-variants as RuleRead
 use Rattle.rules.specs.Rules.{ruleOf, formulaOf}
 use Rattle.logic.specs.Verdict.{verdictOf}
-use Rattle.monitor.specs.declared.Outcome.the-variants.{Refused}
-use Rattle.monitor.specs.declared.Checked.{Checked}
+use Rattle.single.specs.declared.Outcome.the-variants.{Refused}
+use Rattle.single.specs.declared.Checked.{Checked}
 use Rattle.reading.specs.declared.Ending.the-variants as Ending
-use Rattle.monitor.specs.declared.Tally.{Tally}
-use Rattle.monitor.specs.declared.Tallied.{Tallied}
+use Rattle.tallies.specs.declared.Tally.{Tally}
+use Rattle.tallies.specs.declared.Tallied.{Tallied}
 use Rattle.reading.specs.declared.LogRead.{LogRead}
 use Rattle.reading.specs.Left.{Left}
-use Rattle.monitor.specs.Handed.{HandedBy, Reached}
-use Rattle.monitor.specs.Line.{refusing, lineAfter, stateOf, withRule, lineOf, ChecksLine}
-use Rattle.monitor.specs.Tally.{refusingWith, counts?, talliedAfter, talliedState, talliedOf, ChecksTallied}
+use Rattle.single.specs.Handed.{HandedBy, Reached}
+use Rattle.single.specs.Line.{refusing, lineAfter, stateOf, withRule, lineOf, ChecksLine}
+use Rattle.tallies.specs.Tally.{refusingWith, counts?, talliedAfter, talliedState, talliedOf, ChecksTallied}
 use Rattle.monitor.specs.Log.{notRead, linesFrom, logOf, ChecksLog}
 use Rattle.reading.proofs.Standing.{one-trace}
-use Rattle.monitor.proofs.LineCall.{no-rule}
-use Rattle.reading.proofs.Lines.{by-answer}
+use Rattle.single.proofs.LineCall.{no-rule}
+use Rattle.trace.proofs.Taken.{by-answer}
+use Rattle.pairs.specs.Grid.{workSize}
 use Rattle.monitor.proofs.Lines.{from-taken, from-refused}
 use Rattle.reading.proofs.Lines.{same-trace, after-line, no-line}
 use Rattle.claims.specs.WhereMet.{Unknown, MetLine, line-short, line-rule, line-unknown, line-refused, MetTallied, tallied-short, tallied-rule, tallied-unknown, tallied-wrong, tallied-refused, MetLog, log-short-work, log-short-verdicts, log-rule, log-refused}
@@ -43,9 +43,9 @@ use Rattle.claims.proofs.AfterMet.{after-met}
 
 -- 21 is decided where it is looked for; elsewhere it makes no difference
 pub handed : (file : List ℕ) (r : Record) (w : List ℕ) → (Reached file w → (k : Option Trace) × HandedBy r w k) → (k : Option Trace) × (Reached file w → HandedBy r w k)
-handed file r w d = either-lt (length w) 16384 (λ s. (none, λ q. absurd (omega (arith, q .long)))) (λ s. go (ruleOf file) refl s)
+handed file r w d = either-lt (length w) workSize (λ s. (none, λ q. absurd (omega (arith, q .long)))) (λ s. go (ruleOf file) refl s)
   where
-    go : (q : RuleRead) → ruleOf file ≡ q → 16384 ≤ length w → (k : Option Trace) × (Reached file w → HandedBy r w k)
+    go : (q : RuleRead) → ruleOf file ≡ q → workSize ≤ length w → (k : Option Trace) × (Reached file w → HandedBy r w k)
     go (RuleRead.Refused n) p s = (none, λ q. no-rule (ruleOf file) n (q .rule) p (q .taken))
     go (RuleRead.Rule x) p s = let g = d (record { long = s; rule = x; taken = p }) in (g .0, λ _. g .1)
 
@@ -56,9 +56,9 @@ module _ (file : List ℕ) (r : Record) (w line : List ℕ) where
     state-met : (k : Option Trace) → Reached file w → HandedBy r w k → (c : ℕ) → stateOf file x r w line k .0 .outcome ≡ Refused c → MetLine file r w line c
     unfolding stateOf lineAfter
     state-met none g h c e = line-unknown g h (sym (same-refusal c 21 e))
-    state-met (some t) g h c e = go (apply t (eventOf line)) refl e
+    state-met (some t) g h c e = go (step (next t) line) refl e
       where
-        go : (a : Answer) → apply t (eventOf line) ≡ a → lineAfter file x t w a .0 .outcome ≡ Refused c → MetLine file r w line c
+        go : (a : Answer) → step (next t) line ≡ a → lineAfter file x t w a .0 .outcome ≡ Refused c → MetLine file r w line c
         go (next u) q e = not-judged (verdictOf u (formulaOf file x)) c e
         go (refused d) q e = line-refused g (h .0) t (h .1) (after-met (h .0) t (h .1 .accepted) line c .0 (q ∙ ap refused (same-refusal c d e)))
 
@@ -68,23 +68,23 @@ module _ (file : List ℕ) (r : Record) (w line : List ℕ) where
     state-unknown (some t) h n = absurd (n (h .0) t (h .1))
 
     state-refused : (k : Option Trace) → HandedBy r w k → (log : List ℕ) (t : Trace) → Left log t r w
-        → (c : ℕ) → apply t (eventOf line) ≡ refused c → stateOf file x r w line k .0 .outcome ≡ Refused c
+        → (c : ℕ) → step (next t) line ≡ refused c → stateOf file x r w line k .0 .outcome ≡ Refused c
     unfolding stateOf lineAfter
     state-refused none h log t l c e = absurd (h log t l)
     state-refused (some u) h log t l c e =
-        let p : apply u (eventOf line) ≡ refused c = ap (λ (z : Trace). apply z (eventOf line)) (one-trace r w (h .0) log u t (h .1) l) ∙ e in
+        let p : step (next u) line ≡ refused c = ap (λ (z : Trace). step (next z) line) (one-trace r w (h .0) log u t (h .1) l) ∙ e in
         ap (λ (a : Answer). lineAfter file x u w a .0 .outcome) p
 
   -- 20, then the rule
   module _ (k : Option Trace) where
-    of-short : length w < 16384 → lineOf file r w line k .0 .outcome ≡ Refused 20
+    of-short : length w < workSize → lineOf file r w line k .0 .outcome ≡ Refused 20
     unfolding lineOf
     of-short s = simp (lt-ltb _ _ s)
 
     byRule : RuleRead → Checked × List ℕ
     byRule q = withRule q (λ n. (refusing r n, w)) (λ x. stateOf file x r w line k)
 
-    of-rule : 16384 ≤ length w → (q : RuleRead) → ruleOf file ≡ q → lineOf file r w line k .0 .outcome ≡ byRule q .0 .outcome
+    of-rule : workSize ≤ length w → (q : RuleRead) → ruleOf file ≡ q → lineOf file r w line k .0 .outcome ≡ byRule q .0 .outcome
     unfolding lineOf byRule
     of-rule s q e = simp (le-ltb _ _ s) (ap (λ (z : RuleRead). byRule z .0 .outcome) e)
 
@@ -93,13 +93,13 @@ line-of-met : (file : List ℕ) (r : Record) (w line : List ℕ) (k : Option Tra
 unfolding byRule withRule
 line-of-met file r w line k h c = (forth, back)
   where
-    short : length w < 16384 → lineOf file r w line k .0 .outcome ≡ Refused 20
+    short : length w < workSize → lineOf file r w line k .0 .outcome ≡ Refused 20
     short = of-short file r w line k
 
-    rule : 16384 ≤ length w → (q : RuleRead) → ruleOf file ≡ q → lineOf file r w line k .0 .outcome ≡ byRule file r w line k q .0 .outcome
+    rule : workSize ≤ length w → (q : RuleRead) → ruleOf file ≡ q → lineOf file r w line k .0 .outcome ≡ byRule file r w line k q .0 .outcome
     rule = of-rule file r w line k
 
-    read : 16384 ≤ length w → (q : RuleRead) → ruleOf file ≡ q → lineOf file r w line k .0 .outcome ≡ Refused c → MetLine file r w line c
+    read : workSize ≤ length w → (q : RuleRead) → ruleOf file ≡ q → lineOf file r w line k .0 .outcome ≡ Refused c → MetLine file r w line c
     read s (RuleRead.Refused n) q e = line-rule s (q ∙ ap RuleRead.Refused (same-refusal c n (sym (rule s _ q) ∙ e)))
     read s (RuleRead.Rule x) q e =
         let g : Reached file w = record { long = s; rule = x; taken = q } in
@@ -107,7 +107,7 @@ line-of-met file r w line k h c = (forth, back)
 
     forth : lineOf file r w line k .0 .outcome ≡ Refused c → MetLine file r w line c
     forth e =
-        either-lt (length w) 16384
+        either-lt (length w) workSize
         (λ s. line-short s (sym (same-refusal c 20 (sym (short s) ∙ e))))
         (λ s. read s (ruleOf file) refl e)
 
@@ -131,7 +131,7 @@ module _ (file : List ℕ) (r : Record) (y : Tally) (w line : List ℕ) where
     unfolding talliedState
     of-wrong t e = simp e
 
-    of-right : (t : Trace) → counts? t y ≡ true → (a : Answer) → apply t (eventOf line) ≡ a → talliedState file x r y w line (some t) .0 .outcome ≡ talliedAfter file x t y w a .0 .outcome
+    of-right : (t : Trace) → counts? t y ≡ true → (a : Answer) → step (next t) line ≡ a → talliedState file x r y w line (some t) .0 .outcome ≡ talliedAfter file x t y w a .0 .outcome
     unfolding talliedState
     of-right t e a q = simp e (ap (λ (z : Answer). talliedAfter file x t y w z .0 .outcome) q)
 
@@ -140,10 +140,10 @@ module _ (file : List ℕ) (r : Record) (y : Tally) (w line : List ℕ) where
     tally-met none g h c e = tallied-unknown g h (sym (same-refusal c 21 e))
     tally-met (some t) g h c e =
         either-bool (counts? t y)
-        (λ b. go b (apply t (eventOf line)) refl)
+        (λ b. go b (step (next t) line) refl)
         (λ b. tallied-wrong g (h .0) t (h .1) b (sym (same-refusal c 24 (sym (of-wrong t b) ∙ e))))
       where
-        go : counts? t y ≡ true → (a : Answer) → apply t (eventOf line) ≡ a → MetTallied file r y w line c
+        go : counts? t y ≡ true → (a : Answer) → step (next t) line ≡ a → MetTallied file r y w line c
         go b (next u) q = not-judged (verdictOf u (formulaOf file x)) c (sym (of-right t b (next u) q) ∙ e)
         go b (refused d) q = tallied-refused g (h .0) t (h .1) b (after-met (h .0) t (h .1 .accepted) line c .0 (q ∙ ap refused (same-refusal c d (sym (of-right t b (refused d) q) ∙ e))))
 
@@ -158,23 +158,23 @@ module _ (file : List ℕ) (r : Record) (y : Tally) (w line : List ℕ) where
     tally-wrong (some u) h log t l b = of-wrong u (ap (λ (z : Trace). counts? z y) (one-trace r w (h .0) log u t (h .1) l) ∙ b)
 
     tally-refused : (k : Option Trace) → HandedBy r w k → (log : List ℕ) (t : Trace) → Left log t r w
-        → counts? t y ≡ true → (c : ℕ) → apply t (eventOf line) ≡ refused c → talliedState file x r y w line k .0 .outcome ≡ Refused c
+        → counts? t y ≡ true → (c : ℕ) → step (next t) line ≡ refused c → talliedState file x r y w line k .0 .outcome ≡ Refused c
     unfolding talliedAfter
     tally-refused none h log t l b c e = absurd (h log t l)
     tally-refused (some u) h log t l b c e =
         let s : u ≡ t = one-trace r w (h .0) log u t (h .1) l in
-        of-right u (ap (λ (z : Trace). counts? z y) s ∙ b) (refused c) (ap (λ (z : Trace). apply z (eventOf line)) s ∙ e)
+        of-right u (ap (λ (z : Trace). counts? z y) s ∙ b) (refused c) (ap (λ (z : Trace). step (next z) line) s ∙ e)
 
   -- 20, then the rule
   module _ (k : Option Trace) where
-    tally-short : length w < 16384 → talliedOf file r y w line k .0 .outcome ≡ Refused 20
+    tally-short : length w < workSize → talliedOf file r y w line k .0 .outcome ≡ Refused 20
     unfolding talliedOf
     tally-short s = simp (lt-ltb _ _ s)
 
     tallyRule : RuleRead → Tallied × List ℕ
     tallyRule q = withRule q (λ n. (refusingWith r y n, w)) (λ x. talliedState file x r y w line k)
 
-    tally-rule : 16384 ≤ length w → (q : RuleRead) → ruleOf file ≡ q → talliedOf file r y w line k .0 .outcome ≡ tallyRule q .0 .outcome
+    tally-rule : workSize ≤ length w → (q : RuleRead) → ruleOf file ≡ q → talliedOf file r y w line k .0 .outcome ≡ tallyRule q .0 .outcome
     unfolding talliedOf tallyRule
     tally-rule s q e = simp (le-ltb _ _ s) (ap (λ (z : RuleRead). tallyRule z .0 .outcome) e)
 
@@ -183,13 +183,13 @@ tallied-of-met : (file : List ℕ) (r : Record) (y : Tally) (w line : List ℕ) 
 unfolding tallyRule withRule
 tallied-of-met file r y w line k h c = (forth, back)
   where
-    short : length w < 16384 → talliedOf file r y w line k .0 .outcome ≡ Refused 20
+    short : length w < workSize → talliedOf file r y w line k .0 .outcome ≡ Refused 20
     short = tally-short file r y w line k
 
-    rule : 16384 ≤ length w → (q : RuleRead) → ruleOf file ≡ q → talliedOf file r y w line k .0 .outcome ≡ tallyRule file r y w line k q .0 .outcome
+    rule : workSize ≤ length w → (q : RuleRead) → ruleOf file ≡ q → talliedOf file r y w line k .0 .outcome ≡ tallyRule file r y w line k q .0 .outcome
     rule = tally-rule file r y w line k
 
-    read : 16384 ≤ length w → (q : RuleRead) → ruleOf file ≡ q → talliedOf file r y w line k .0 .outcome ≡ Refused c → MetTallied file r y w line c
+    read : workSize ≤ length w → (q : RuleRead) → ruleOf file ≡ q → talliedOf file r y w line k .0 .outcome ≡ Refused c → MetTallied file r y w line c
     read s (RuleRead.Refused n) q e = tallied-rule s (q ∙ ap RuleRead.Refused (same-refusal c n (sym (rule s _ q) ∙ e)))
     read s (RuleRead.Rule x) q e =
         let g : Reached file w = record { long = s; rule = x; taken = q } in
@@ -197,7 +197,7 @@ tallied-of-met file r y w line k h c = (forth, back)
 
     forth : talliedOf file r y w line k .0 .outcome ≡ Refused c → MetTallied file r y w line c
     forth e =
-        either-lt (length w) 16384
+        either-lt (length w) workSize
         (λ s. tallied-short s (sym (same-refusal c 20 (sym (short s) ∙ e))))
         (λ s. read s (ruleOf file) refl e)
 
@@ -215,31 +215,31 @@ tallied-met file r y w line a w′ h c =
     subst (λ (z : Tallied × List ℕ). (z .0 .outcome ≡ Refused c) ↔ MetTallied file r y w line c) (sym (h .answer (k .0) (k .1))) (tallied-of-met file r y w line (k .0) (k .1) c)
 
 -- ── a whole log ──
-module _ (file : List ℕ) (x : Rule) (w : List ℕ) (line : List ℕ) (after : List (List ℕ)) (t : Trace) (c : ℕ) (e : apply t (eventOf line) ≡ refused c) where
+module _ (file : List ℕ) (x : Rule) (w : List ℕ) (line : List ℕ) (after : List (List ℕ)) (t : Trace) (c : ℕ) (e : step (next t) line ≡ refused c) where
   -- the lines from s on stop at the line that is refused
   from-stop : (before : List (List ℕ)) (s : Trace) (out : List ℕ) (n : ℕ) → steps (next s) before ≡ next t → n ≡ s .lines + length before + 1
       → linesFrom file x s (before ++ (line ∷ after)) w out .0 .ending ≡ Ending.Refused c n
   from-stop [] s out n p m =
-      let q : apply s (eventOf line) ≡ refused c = ap (λ (z : Trace). apply z (eventOf line)) (same-trace s t p) ∙ e in
+      let q : step (next s) line ≡ refused c = ap (λ (z : Trace). step (next z) line) (same-trace s t p) ∙ e in
       let k : s .lines + 1 ≡ n = omega (arith, m) in
       ap (λ (a : End). a .0 .ending) (from-refused file x s line after w out c q) ∙ ap (Ending.Refused c) k
   from-stop (l ∷ ls) s out n p m =
       by-answer s l
       (λ u q.
       let v = after-line s u t l ls q p in
-      let k = step-lines s u (eventOf l) q in
+      let k = line-lines s u l q in
       ap (λ (a : End). a .0 .ending) (from-taken file x s l (ls ++ (line ∷ after)) w out u q) ∙ from-stop ls u _ n v (omega (arith, m, k)))
       (λ d q. no-line s t d l ls q p)
 
 module _ (w out : List ℕ) where
   abbrev Short : Type 0
-  Short = ltb (length w) 16384 || ltb (length out) 256 ≡ true
+  Short = ltb (length w) workSize || ltb (length out) 256 ≡ true
 
-  short-work : length w < 16384 → Short
+  short-work : length w < workSize → Short
   short-work s = simp (lt-ltb _ _ s)
 
   short-verdicts : length out < 256 → Short
-  short-verdicts s = either-bool (ltb (length w) 16384) (λ b. simp b) (λ b. simp (b, lt-ltb _ _ s))
+  short-verdicts s = either-bool (ltb (length w) workSize) (λ b. simp b) (λ b. simp (b, lt-ltb _ _ s))
 
   module _ (file log : List ℕ) where
     log-short : Short → logOf file log w out .0 .ending ≡ Ending.Refused 20 0
@@ -249,10 +249,10 @@ module _ (w out : List ℕ) where
     logRule : RuleRead → End
     logRule q = withRule q (λ n. (notRead n, w, out)) (λ x. linesFrom file x noTrace (linesOf log) w out)
 
-    log-by-rule : 16384 ≤ length w → 256 ≤ length out → (q : RuleRead) → ruleOf file ≡ q → logOf file log w out .0 .ending ≡ logRule q .0 .ending
+    log-by-rule : workSize ≤ length w → 256 ≤ length out → (q : RuleRead) → ruleOf file ≡ q → logOf file log w out .0 .ending ≡ logRule q .0 .ending
     unfolding logOf logRule
     log-by-rule s v q e =
-        let b : ltb (length w) 16384 || ltb (length out) 256 ≡ false = simp (le-ltb _ _ s, le-ltb _ _ v) in
+        let b : ltb (length w) workSize || ltb (length out) 256 ≡ false = simp (le-ltb _ _ s, le-ltb _ _ v) in
         simp b (ap (λ (z : RuleRead). logRule z .0 .ending) e)
 
 log-of-met : (file log w out : List ℕ) (c n : ℕ) → (logOf file log w out .0 .ending ≡ Ending.Refused c n) ↔ MetLog file log w out c n
@@ -262,10 +262,10 @@ log-of-met file log w out c n = (forth, back)
     short : Short w out → logOf file log w out .0 .ending ≡ Ending.Refused 20 0
     short = log-short w out file log
 
-    rule : 16384 ≤ length w → 256 ≤ length out → (q : RuleRead) → ruleOf file ≡ q → logOf file log w out .0 .ending ≡ logRule w out file log q .0 .ending
+    rule : workSize ≤ length w → 256 ≤ length out → (q : RuleRead) → ruleOf file ≡ q → logOf file log w out .0 .ending ≡ logRule w out file log q .0 .ending
     rule = log-by-rule w out file log
 
-    reading : 16384 ≤ length w → 256 ≤ length out → (q : RuleRead) → ruleOf file ≡ q → logOf file log w out .0 .ending ≡ Ending.Refused c n → MetLog file log w out c n
+    reading : workSize ≤ length w → 256 ≤ length out → (q : RuleRead) → ruleOf file ≡ q → logOf file log w out .0 .ending ≡ Ending.Refused c n → MetLog file log w out c n
     reading s v (RuleRead.Refused m) q e =
         let p = same-ending c m n 0 (sym (rule s v _ q) ∙ e) in
         log-rule s v (q ∙ ap RuleRead.Refused (p .0)) (sym (p .1))
@@ -275,7 +275,7 @@ log-of-met file log w out c n = (forth, back)
 
     forth : logOf file log w out .0 .ending ≡ Ending.Refused c n → MetLog file log w out c n
     forth e =
-        either-lt (length w) 16384
+        either-lt (length w) workSize
         (λ s. let p = same-ending c 20 n 0 (sym (short (short-work w out s)) ∙ e) in log-short-work s (sym (p .0)) (sym (p .1)))
         (λ s.
         either-lt (length out) 256

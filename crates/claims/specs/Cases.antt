@@ -7,6 +7,7 @@ use Rattle.lists.specs.Lists.{bytes}
 use Rattle.labels.specs.Label.{labelNo, labelOf}
 use Rattle.trace.specs.declared.Run.{Run}
 use Rattle.trace.specs.Trace.{Trace, line}
+use Rattle.pairs.specs.Grid.{workSize}
 use Rattle.pairs.specs.Pairs.{workOf}
 use Rattle.relations.specs.Compose.{Examples}
 use Rattle.rules.specs.declared.RuleRead.the-variants as RuleRead
@@ -15,12 +16,12 @@ use Rattle.rules.specs.Cases.{p1File, p1Rule, noEveningIncludesTest, p10File, p
 use Rattle.reading.specs.declared.Ending.the-variants as Ending
 use Rattle.reading.specs.Reading.{ended}
 use Rattle.monitor.specs.Log.{logOf}
-use Rattle.monitor.specs.Tally.{tallyAfter}
+use Rattle.tallies.specs.Tally.{tallyAfter}
 use Rattle.report.specs.Text.{reportText}
 
 -- the buffers of a whole-log call are long enough
 pub record Long (w out : List ℕ) : Type 0 where
-  pub work : 16384 ≤ length w
+  pub work : workSize ≤ length w
   pub verdicts : 256 ≤ length out
 
 -- pair byte 1, run 0 with run 1, after P1's rule and a log

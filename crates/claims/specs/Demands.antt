@@ -1,20 +1,20 @@
 -- The three demands, as three statements about whatever the calls answer by their contracts. A contract gives the answer and the
 -- contents of every lent buffer at exit: a, w′ and out′ below. That a call ends and does nothing undefined is proved of every function.
--- A contract has what its answer means as a part; that the calls keep their contracts is proved in `monitor`, `report`, `relations` and
--- the crates below. The call that is lent a tally (`check_line_lent`) has the contract of the one with a tally by value. The calls for C
+-- A contract has what its answer means as a part; that the calls keep their contracts is proved in `single`, `tallies`, `lent`, `monitor`,
+-- `report`, `relations` and the crates below. The call that is lent a tally (`check_line_lent`) has the contract of the one with a tally by value. The calls for C
 -- and the bytes of a record are not on this page: their contracts (`scene_log`, `record_bytes`) give each answer by these.
 --
 -- The words of this page, and where they are defined:
 --   Accepted log t      no line of log meets a refusal, and the trace t is what its lines leave      trace/specs/Trace.antt
 --   Left log t r w      they leave the record r and the pair bytes of the work area w                reading/specs/Left.antt
---   ChecksLine, ChecksTallied, ChecksLog    the contracts of the calls of `monitor`                  monitor/specs/Line, Tally, Log.antt
+--   ChecksLine, ChecksTallied, ChecksLog    the contracts of the calls               single/specs/Line, tallies/specs/Tally, monitor/specs/Log.antt
 --   startOf, Reports    those of start_record and report                                             pairs/, report/specs
 --   Relating, Composition, Conversed    those of relate, compose and converse                        relations/specs
 --   ReadsRule, nextLine, parsedOf    those of read_rule, next_line, parse_line                       rules/, lines/specs
 --   MetLine .. MetCompose    where a call meets a refusal                                            claims/specs/WhereMet.antt
 --   Says t f v          v is "holds" if and only if the lines satisfy the formula f                  logic/specs/Verdict.antt
 --   formulaOf file x    the formula of a rule file                                                   rules/specs/Rules.antt
---   TakenLine, TalliedMeans, LogMeans, TextMeans    what an answer says of the log                   monitor/, report/specs
+--   TakenLine, TalliedMeans, LogMeans, TextMeans    what an answer says of the log                   single/, tallies/, monitor/, report/specs
 --   pairByte, workOf    the byte of two runs, and the work area with all of them                     pairs/specs/Pairs.antt
 --   Shown log a b r     the log shows r by three runs through members of a and b                     relations/specs/Compose.antt
 use Prim.Native.Nat.{ℕ, _+_, _*_, _≤_, _<_}
@@ -31,7 +31,8 @@ use Rattle.lines.specs.declared.Next.the-variants as Next
 use Rattle.lines.specs.declared.Parsed.the-variants as Parsed
 use Rattle.trace.specs.declared.Record.{Record}
 use Rattle.trace.specs.declared.RunNo.{RunNo}
-use Rattle.trace.specs.Trace.{Trace, next, noTrace, apply, runAt, Accepted}
+use Rattle.trace.specs.Trace.{Trace, next, noTrace, runAt, Accepted, step}
+use Rattle.pairs.specs.Grid.{workSize}
 use Rattle.pairs.specs.declared.Started.{Started}
 use Rattle.pairs.specs.declared.Start.the-variants as Start
 use Rattle.pairs.specs.Pairs.{pairByte, workOf}
@@ -52,15 +53,15 @@ use Rattle.rules.specs.declared.RuleRead.the-variants as RuleRead
 use Rattle.rules.specs.Rules.{ruleOf, formulaOf, ReadsRule}
 use Rattle.logic.specs.declared.Verdict.{Verdict}
 use Rattle.logic.specs.Verdict.{verdictOf, Says}
-use Rattle.monitor.specs.declared.Outcome.the-variants.{Refused}
+use Rattle.single.specs.declared.Outcome.the-variants.{Refused}
 use Rattle.reading.specs.declared.Ending.the-variants as Ending
-use Rattle.monitor.specs.declared.Checked.{Checked}
-use Rattle.monitor.specs.declared.Tally.{Tally}
-use Rattle.monitor.specs.declared.Tallied.{Tallied}
+use Rattle.single.specs.declared.Checked.{Checked}
+use Rattle.tallies.specs.declared.Tally.{Tally}
+use Rattle.tallies.specs.declared.Tallied.{Tallied}
 use Rattle.reading.specs.declared.LogRead.{LogRead}
 use Rattle.reading.specs.Left.{Left}
-use Rattle.monitor.specs.Line.{judged, refusing, TakenLine, ChecksLine}
-use Rattle.monitor.specs.Tally.{counts?, refusingWith, untallied, tallyAfter, TalliedMeans, ChecksTallied}
+use Rattle.single.specs.Line.{judged, refusing, TakenLine, ChecksLine}
+use Rattle.tallies.specs.Tally.{counts?, refusingWith, untallied, tallyAfter, TalliedMeans, ChecksTallied}
 use Rattle.reading.specs.Reading.{ended}
 use Rattle.monitor.specs.Log.{notRead, logOf, LogMeans, ChecksLog}
 use Rattle.report.specs.declared.Reported.{Reported}
@@ -101,12 +102,12 @@ pub record Demand1 : Type 0 where
       → (c n : ℕ) → a .ending ≡ Ending.Refused c n → Listed c × LogRefused file log w out c n a w′ out′
   -- starting a record
   pub start-met : (w : List ℕ) (a : Started) (w′ : List ℕ) → _≡_ {A = Started × List ℕ} (a, w′) (startOf w)
-      → (c : ℕ) → (a .outcome ≡ Start.Refused c) ↔ ((length w < 16384) × (c ≡ 20))
+      → (c : ℕ) → (a .outcome ≡ Start.Refused c) ↔ ((length w < workSize) × (c ≡ 20))
   pub start-kept : (w : List ℕ) (a : Started) (w′ : List ℕ) → _≡_ {A = Started × List ℕ} (a, w′) (startOf w)
       → (c : ℕ) → a .outcome ≡ Start.Refused c → w′ ≡ w
   -- the report
   pub report-met : (file log w out text : List ℕ) (a : Reported) (w′ out′ text′ : List ℕ) → Reports file log w out text a w′ out′ text′
-      → (c : ℕ) → (a ≡ Reported.Refused c) ↔ (((16384 ≤ length w) × (256 ≤ length out) × (2048 ≤ length text) → ⊥) × (c ≡ 20))
+      → (c : ℕ) → (a ≡ Reported.Refused c) ↔ (((workSize ≤ length w) × (256 ≤ length out) × (2048 ≤ length text) → ⊥) × (c ≡ 20))
   pub report-kept : (file log w out text : List ℕ) (a : Reported) (w′ out′ text′ : List ℕ) → Reports file log w out text a w′ out′ text′
       → (c : ℕ) → a ≡ Reported.Refused c → (w′ ≡ w) × (out′ ≡ out) × (text′ ≡ text)
   -- a refused rule is printed, and nothing else
@@ -147,12 +148,12 @@ pub record Demand2 : Type 0 where
   -- of every accepted log, and every rule that is taken
   pub settled : (file : List ℕ) (x : Rule) → ruleOf file ≡ RuleRead.Rule x → (log : List ℕ) (t : Trace) → Accepted log t → Settled file x t (verdictOf t (formulaOf file x))
   -- a record that is started is that of no lines
-  pub start : (w : List ℕ) (a : Started) (w′ : List ℕ) → _≡_ {A = Started × List ℕ} (a, w′) (startOf w) → 16384 ≤ length w → Left [] noTrace (a .state) w′
+  pub start : (w : List ℕ) (a : Started) (w′ : List ℕ) → _≡_ {A = Started × List ℕ} (a, w′) (startOf w) → workSize ≤ length w → Left [] noTrace (a .state) w′
   -- so after every line that the single-line call takes; and it takes each line that meets no refusal
   pub line : (file : List ℕ) (x : Rule) → ruleOf file ≡ RuleRead.Rule x → (log : List ℕ) (t : Trace) (r : Record) (w line : List ℕ) → Left log t r w
       → (a : Checked) (w′ : List ℕ) → ChecksLine file r w line a w′ → (v : Verdict) → a .outcome ≡ judged v → GoesOn file x log line w v (a .state) w′
   pub takes : (file : List ℕ) (x : Rule) → ruleOf file ≡ RuleRead.Rule x → (log : List ℕ) (t : Trace) (r : Record) (w line : List ℕ) → Left log t r w
-      → (a : Checked) (w′ : List ℕ) → ChecksLine file r w line a w′ → (u : Trace) → apply t (eventOf line) ≡ next u → a .outcome ≡ judged (verdictOf u (formulaOf file x))
+      → (a : Checked) (w′ : List ℕ) → ChecksLine file r w line a w′ → (u : Trace) → step (next t) line ≡ next u → a .outcome ≡ judged (verdictOf u (formulaOf file x))
   -- the call with a tally answers the same
   pub tallied-same : (file : List ℕ) (log : List ℕ) (t : Trace) (r : Record) (y : Tally) (w line : List ℕ) → Left log t r w → counts? t y ≡ true
       → (a : Tallied) (w′ : List ℕ) → ChecksTallied file r y w line a w′ → (b : Checked) (v : List ℕ) → ChecksLine file r w line b v → (untallied a ≡ b) × (w′ ≡ v)
@@ -162,13 +163,13 @@ pub record Demand2 : Type 0 where
   pub zeros : (file : List ℕ) (x : Rule) → tallyAfter file x [] noTrace ≡ record { lines = 0; begun = 0; finished = 0; running = 0; failing = 0 }
   pub counted : (file : List ℕ) (x : Rule) (log : List ℕ) (t : Trace) → Accepted log t → counts? t (tallyAfter file x log t) ≡ true
   -- and after every line of a whole log, up to the first that is refused: its verdict byte, and at the end the record and the pair bytes
-  pub log : (file : List ℕ) (x : Rule) → ruleOf file ≡ RuleRead.Rule x → (log w out : List ℕ) → 16384 ≤ length w → 256 ≤ length out
+  pub log : (file : List ℕ) (x : Rule) → ruleOf file ≡ RuleRead.Rule x → (log w out : List ℕ) → workSize ≤ length w → 256 ≤ length out
       → (a : LogRead) (w′ out′ : List ℕ) → ChecksLog file log w out a w′ out′ → LogMeans file x log w out a w′ out′
   -- and so says each line of the report
   pub report : (file : List ℕ) (x : Rule) → ruleOf file ≡ RuleRead.Rule x → (log w out text : List ℕ) (a : Reported) (w′ out′ text′ : List ℕ)
       → Reports file log w out text a w′ out′ text′ → (n : ℕ) → a ≡ Reported.Length n → TextMeans file x log (take n text′)
   -- an accepted log is read to its end
-  pub read : (file : List ℕ) (x : Rule) → ruleOf file ≡ RuleRead.Rule x → (log : List ℕ) (t : Trace) → Accepted log t → (w out : List ℕ) → 16384 ≤ length w → 256 ≤ length out
+  pub read : (file : List ℕ) (x : Rule) → ruleOf file ≡ RuleRead.Rule x → (log : List ℕ) (t : Trace) → Accepted log t → (w out : List ℕ) → workSize ≤ length w → 256 ≤ length out
       → (a : LogRead) (w′ out′ : List ℕ) → ChecksLog file log w out a w′ out′ → a ≡ ended t Ending.Read
 
 -- ── demand 3 ──

@@ -13,14 +13,15 @@ use Rattle.lines.specs.Log.{linesOf}
 use Rattle.trace.specs.declared.Record.{Record}
 use Rattle.trace.specs.Trace.{Trace, runAt, Finished, Accepted}
 use Rattle.trace.specs.Record.{recordOf, Valid}
+use Rattle.pairs.specs.Grid.{workSize}
 use Rattle.relations.specs.Runs.{FinishedRun}
 use Rattle.rules.specs.declared.Rule.{Rule}
 use Rattle.rules.specs.declared.RuleRead.the-variants as RuleRead
 use Rattle.rules.specs.Rules.{ruleOf}
-use Rattle.monitor.specs.declared.Tally.{Tally}
+use Rattle.tallies.specs.declared.Tally.{Tally}
 use Rattle.reading.specs.Left.{Left}
-use Rattle.monitor.specs.Handed.{Reached}
-use Rattle.monitor.specs.Tally.{counts?}
+use Rattle.single.specs.Handed.{Reached}
+use Rattle.tallies.specs.Tally.{counts?}
 
 -- ── a line ──
 -- run k of the lines that t stands for has the id i; no run has it
@@ -54,9 +55,9 @@ Unknown r w = (log : List ℕ) (t : Trace) → Left log t r w → ⊥
 
 pub data MetLine (file : List ℕ) (r : Record) (w line : List ℕ) (c : ℕ) : Type 0 where
   -- "20 a lent buffer shorter than stated"
-  line-short : length w < 16384 → c ≡ 20 → MetLine file r w line c
+  line-short : length w < workSize → c ≡ 20 → MetLine file r w line c
   -- "then the rule from its front": 1 to 10, as `ruleOf` reads it
-  line-rule : 16384 ≤ length w → ruleOf file ≡ RuleRead.Refused c → MetLine file r w line c
+  line-rule : workSize ≤ length w → ruleOf file ≡ RuleRead.Refused c → MetLine file r w line c
   -- "21 no sequence of accepted lines leaves the record handed in, or the pair bytes are not that record's"
   line-unknown : Reached file w → Unknown r w → c ≡ 21 → MetLine file r w line c
   -- "then the line", after the lines that leave the record
@@ -64,8 +65,8 @@ pub data MetLine (file : List ℕ) (r : Record) (w line : List ℕ) (c : ℕ) : 
 
 -- the single-line call with a tally
 pub data MetTallied (file : List ℕ) (r : Record) (y : Tally) (w line : List ℕ) (c : ℕ) : Type 0 where
-  tallied-short : length w < 16384 → c ≡ 20 → MetTallied file r y w line c
-  tallied-rule : 16384 ≤ length w → ruleOf file ≡ RuleRead.Refused c → MetTallied file r y w line c
+  tallied-short : length w < workSize → c ≡ 20 → MetTallied file r y w line c
+  tallied-rule : workSize ≤ length w → ruleOf file ≡ RuleRead.Refused c → MetTallied file r y w line c
   tallied-unknown : Reached file w → Unknown r w → c ≡ 21 → MetTallied file r y w line c
   -- "24 a tally whose first four counts are not the record's, or whose failing lines exceed its lines"
   tallied-wrong : Reached file w → (log : List ℕ) (t : Trace) → Left log t r w → counts? t y ≡ false → c ≡ 24 → MetTallied file r y w line c
@@ -85,10 +86,10 @@ pub record FirstRefused (log : List ℕ) (c n : ℕ) : Type 0 where
 
 -- the call names line n: 0 before any line is read
 pub data MetLog (file log w out : List ℕ) (c n : ℕ) : Type 0 where
-  log-short-work : length w < 16384 → c ≡ 20 → n ≡ 0 → MetLog file log w out c n
+  log-short-work : length w < workSize → c ≡ 20 → n ≡ 0 → MetLog file log w out c n
   log-short-verdicts : length out < 256 → c ≡ 20 → n ≡ 0 → MetLog file log w out c n
-  log-rule : 16384 ≤ length w → 256 ≤ length out → ruleOf file ≡ RuleRead.Refused c → n ≡ 0 → MetLog file log w out c n
-  log-refused : 16384 ≤ length w → 256 ≤ length out → (x : Rule) → ruleOf file ≡ RuleRead.Rule x → FirstRefused log c n → MetLog file log w out c n
+  log-rule : workSize ≤ length w → 256 ≤ length out → ruleOf file ≡ RuleRead.Refused c → n ≡ 0 → MetLog file log w out c n
+  log-refused : workSize ≤ length w → 256 ≤ length out → (x : Rule) → ruleOf file ≡ RuleRead.Rule x → FirstRefused log c n → MetLog file log w out c n
 
 -- ── the other calls ──
 -- relating runs a and b of a record: "21 (of the record alone), 22, 23"

@@ -1,4 +1,5 @@
 pub mod Letters
+pub mod Form
 pub mod Hash
 pub mod Same
 pub mod Probe

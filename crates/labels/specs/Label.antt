@@ -16,10 +16,22 @@ unfoldable pub letter? : ℕ → Bool
 unfolding digit?
 letter? b = (leb 65 b && leb b 90) || digit? b || eqb b 95
 
--- "A label is 1 to 24 bytes from A to Z, 0 to 9 and underscore." No bytes at all stand for a missing label.
+-- "A label is 1 to 24 bytes from A to Z, 0 to 9 and underscore.": how long one is, and the form of one that is written in a line
+-- or in a rule file
+abbrev pub maxLabelBytes : ℕ
+maxLabelBytes = 24
+
+abbrev pub labelLength? : ℕ → Bool
+labelLength? n = leb 1 n && leb n maxLabelBytes
+
+unfoldable pub labelForm? : List ℕ → Bool
+unfolding letter?
+labelForm? l = labelLength? (length l) && all? letter? l
+
+-- what a run has: the bytes of a label, or no bytes at all where it has none
 unfoldable pub label? : List ℕ → Bool
 unfolding letter?
-label? l = leb (length l) 24 && all? letter? l
+label? l = leb (length l) maxLabelBytes && all? letter? l
 
 -- "distinct labels from 1 in the order of first appearance; label 0 means none"
 abbrev pub labelNo : ℕ → LabelNo

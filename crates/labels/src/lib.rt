@@ -1,7 +1,7 @@
 // Labels and the table that numbers them: up to 64 labels in order of first appearance, found through 128 places by
 // their FNV-1a hash.
 //
-// `fnv1a` hashes bytes. `label_from` makes a label of a byte string, `label_byte` says which bytes a label has.
+// `fnv1a` hashes bytes. `is_label` says which byte strings are labels, `label_from` makes a label of one.
 // `no_labels` is the empty table, `find_label` looks a label up, `add_label` adds one at the place that the search found.
 ghost use mathlib.Core.Path.{_≡_};
 ghost use mathlib.Core.List.{[]};
@@ -9,8 +9,11 @@ ghost use Prim.Native.Nat.{ℕ, _+_, _*_, _%_, _<_, _≤_};
 ghost use lib.ListN.{length};
 ghost use Rattle.lists.specs.Tells.{Tells};
 ghost use Rattle.labels.specs.Fnv.{fnvOf, fnvStep};
-ghost use Rattle.labels.specs.Label.{letter?, labelOf, noLabel, byteSound, sound?};
+ghost use Rattle.labels.specs.Label.{letter?, labelForm?, labelOf, noLabel, byteSound, sound?};
 ghost use Rattle.labels.specs.Table.{FindsLabel, AddsLabel, firstPlace, tableOf, Readable};
+
+// The most bytes of a label.
+pub const MAX_LABEL_BYTES: usize = 24;
 
 // A label's number, from 1 in the order of first appearance; 0 for none.
 pub struct LabelNo(pub u8);
@@ -79,6 +82,26 @@ pub fn label_byte(b: u8) -> bool
         return true;
     }
     b == 95
+}
+
+// Whether a byte string is a label: 1 to 24 bytes, each one that a label may have.
+pub fn is_label(s: &[u8]) -> bool
+    ensures { λ r. ⌜ r ≡ labelForm? (now (s .entry)) ⌝ }
+{
+    if s.len() < 1 {
+        return false;
+    }
+    if s.len() > MAX_LABEL_BYTES {
+        return false;
+    }
+    let mut i: usize = 0;
+    while i < s.len() {
+        if !label_byte(s[i]) {
+            return false;
+        }
+        i += 1;
+    }
+    true
 }
 
 // The label that stands for a missing one.

@@ -23,6 +23,10 @@ either-bool false f g = g refl
 pub no-both : {C : Type 0} → true ≡ false → C
 no-both e = absurd (let z : _≡_ {A = ℕ} 0 1 = cc in omega arith)
 
+-- no two variants are the same
+pub never : {C : Type 0} → _≡_ {A = ℕ} 0 1 → C
+never e = absurd (omega arith)
+
 pub and-left : (a b : Bool) → a && b ≡ true → a ≡ true
 and-left true b e = refl
 and-left false b e = no-both (sym e)

@@ -1,3 +1,4 @@
 pub mod Cases
 pub mod Tells
 pub mod Lists
+pub mod Below

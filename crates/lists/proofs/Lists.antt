@@ -1,5 +1,5 @@
 -- Laws of lists that the kit lacks: padding, bytes that occur or not, two arrays compared.
-use Prim.Native.Nat.{ℕ, suc, _+_, _-_, _<_, _≤_}
+use Prim.Native.Nat.{ℕ, zero, suc, _+_, _-_, _<_, _≤_}
 use mathlib.Core.Path.{_≡_, refl, ap, sym, _∙_, subst}
 use mathlib.Core.Logic.{_≢_}
 use mathlib.Core.List.{List, [], _∷_, _++_, append-assoc, map}
@@ -21,6 +21,12 @@ append-nil {A = A} (x ∷ l) = ap (λ (y : List A). x ∷ y) (append-nil l)
 -- an array's length, from what is known of a value that holds it
 pub unmapped : {A B : Type 0} (f : A → B) (l : List A) (n : ℕ) → length (map f l) ≡ n → length l ≡ n
 unmapped f l n e = sym (length-map l f) ∙ e
+
+-- an array of zeros
+pub zeros : (n i : ℕ) → getD {A = ℕ} (replicate n 0) i 0 ≡ 0
+zeros zero i = refl
+zeros (suc n) zero = refl
+zeros (suc n) (suc i) = zeros n i
 
 -- ── a list that is filled up ──
 -- a store just past the end

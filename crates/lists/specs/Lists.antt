@@ -1,5 +1,5 @@
 -- Tests and parts of lists that the definitions of the other crates use.
-use Prim.Native.Nat.{ℕ, _-_}
+use Prim.Native.Nat.{ℕ, zero, suc, _-_}
 use mathlib.Core.Bool.{Bool, true, false, _&&_, _||_, cond}
 use mathlib.Core.List.{List, [], _∷_, _++_}
 use lib.Dec.{eqb, ltb}
@@ -18,6 +18,11 @@ none? (x ∷ xs) = false
 abbrev pub all? : (ℕ → Bool) → List ℕ → Bool
 all? f [] = true
 all? f (x ∷ xs) = f x && all? f xs
+
+-- some number below n passes
+abbrev pub anyBelow : ℕ → (ℕ → Bool) → Bool
+anyBelow zero p = false
+anyBelow (suc n) p = anyBelow n p || p n
 
 -- whether each number is a byte
 abbrev pub bytes? : List ℕ → Bool

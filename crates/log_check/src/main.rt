@@ -6,8 +6,10 @@ ghost use mathlib.Core.Path.{_≡_};
 ghost use lib.ListN.{length};
 ghost use Rattle.io.specs.Counts.{Counts};
 ghost use Rattle.log_check.specs.Printed.{ruleRoom, logRoom, Printed};
+ghost use Rattle.pairs.specs.Grid.{workSize};
 use libc::STDIN_FILENO;
 use libc::STDOUT_FILENO;
+use pairs::PAIR_BYTES;
 use report::Reported;
 
 // One byte more than the longest rule file, so that a longer one is seen to be too long.
@@ -15,9 +17,6 @@ const RULE_ROOM: usize = 600;
 
 // The first bytes of a log. With those of the rule file they decide the report: `first-bytes-decide-report` of the crate `report`.
 const LOG_ROOM: usize = 8192;
-
-// The buffers that the report asks for.
-const PAIR_BYTES: usize = 16384;
 
 const VERDICT_BYTES: usize = 256;
 
@@ -53,7 +52,7 @@ fn make_report(
     verdicts: &mut [u8],
     text: &mut [u8],
 ) -> usize
-    requires { ⌜ (16384 ≤ length (now work)) × (256 ≤ length (now verdicts)) × (2048 ≤ length (now text)) ⌝ }
+    requires { ⌜ (workSize ≤ length (now work)) × (256 ≤ length (now verdicts)) × (2048 ≤ length (now text)) ⌝ }
     ensures { λ n. ⌜ Printed (now (rule .entry)) (now (log .entry)) (now (text .exit)) n ⌝ }
 {
     let answer = report::report(rule, log, work, verdicts, text);

@@ -1,23 +1,17 @@
 -- A formula in which every variable is bound has one truth value, whatever the variables stand for at first; and a model that says
 -- the same of every finished run, and has only unfinished runs more, gives it the same truth value.
-use Prim.Native.Nat.{ℕ, zero, suc, _<_, _≤_}
+use Prim.Native.Nat.{ℕ, zero, suc, _≤_}
 use mathlib.Core.Path.{_≡_, refl, sym, ap, ap₂, _∙_}
 use mathlib.Core.Bool.{Bool, true, false, not, _&&_, _||_, cond, or-false}
 use mathlib.Core.List.{List}
 use native.Mathlib.Omega.{arith}
 use lib.Dec.{eqb}
+use Rattle.lists.specs.Lists.{anyBelow}
+use Rattle.lists.proofs.Below.{any-agree}
 use Rattle.lists.proofs.Cases.{either-eq, no-both, and-left, and-right}
-use Rattle.relations.specs.Relation as Relation
-use Rattle.rules.specs.Formula.{Formula, both, neg, exists, has, before, overlaps, includes, same, Scope, noScope, enter, scoped}
+use Rattle.rules.specs.Formula.{Pairing, Formula, both, neg, exists, has, pair, Scope, noScope, enter, scoped}
 use Rattle.logic.specs.Satisfies.{Binding, bind}
-use Rattle.logic.specs.Model.{Model, anyBelow, eval}
-
-pub any-agree : (p q : ℕ → Bool) (n : ℕ) → ((j : ℕ) → j < n → p j ≡ q j) → anyBelow n p ≡ anyBelow n q
-any-agree p q zero h = refl
-any-agree p q (suc n) h =
-    let e = any-agree p q n (λ j l. h j (omega (arith, l))) in
-    let d = h n (omega arith) in
-    ap₂ _||_ e d
+use Rattle.logic.specs.Model.{Model, eval}
 
 -- ── bindings that agree on the variables in scope ──
 abbrev AgreeOn : Scope → Binding → Binding → Type 0
@@ -39,10 +33,7 @@ module _ (m : Model) where
       any-agree (λ j. m .done j && eval m (bind ρ v j) f) (λ j. m .done j && eval m (bind σ v j) f) (m .runs)
       (λ j l. ap (λ (b : Bool). m .done j && b) (eval-scoped f (enter s v) (bind ρ v j) (bind σ v j) e (enter-agree s ρ σ v j h)))
   eval-scoped (has v l) s ρ σ e h = ap (λ (i : ℕ). m .labelled i l) (h v e)
-  eval-scoped (before v w) s ρ σ e h = ap₂ (m .relates Relation.before) (h v (and-left (s v) (s w) e)) (h w (and-right (s v) (s w) e))
-  eval-scoped (overlaps v w) s ρ σ e h = ap₂ (m .relates Relation.overlaps) (h v (and-left (s v) (s w) e)) (h w (and-right (s v) (s w) e))
-  eval-scoped (includes v w) s ρ σ e h = ap₂ (m .relates Relation.includes) (h v (and-left (s v) (s w) e)) (h w (and-right (s v) (s w) e))
-  eval-scoped (same v w) s ρ σ e h = ap₂ (m .alike) (h v (and-left (s v) (s w) e)) (h w (and-right (s v) (s w) e))
+  eval-scoped (pair p v w) s ρ σ e h = ap₂ (m .paired p) (h v (and-left (s v) (s w) e)) (h w (and-right (s v) (s w) e))
 
   pub eval-closed : (f : Formula) (ρ σ : Binding) → scoped f (λ _. false) ≡ true → eval m ρ f ≡ eval m σ f
   eval-closed f ρ σ e = eval-scoped f (λ _. false) ρ σ e (λ v h. no-both (sym h))
@@ -53,8 +44,7 @@ pub record Extends (m o : Model) : Type 0 where
   pub done : (j : ℕ) → m .done j ≡ o .done j
   pub unfinished : (j : ℕ) → m .runs ≤ j → o .done j ≡ false
   pub labelled : (j : ℕ) (l : List ℕ) → m .done j ≡ true → m .labelled j l ≡ o .labelled j l
-  pub relates : (r : Relation.Relation) (j k : ℕ) → m .done j ≡ true → m .done k ≡ true → m .relates r j k ≡ o .relates r j k
-  pub alike : (j k : ℕ) → m .done j ≡ true → m .done k ≡ true → m .alike j k ≡ o .alike j k
+  pub paired : (p : Pairing) (j k : ℕ) → m .done j ≡ true → m .done k ≡ true → m .paired p j k ≡ o .paired p j k
 
 -- numbers that do not pass change nothing
 any-longer : (p : ℕ → Bool) (n m : ℕ) → n ≤ m → ((j : ℕ) → n ≤ j → p j ≡ false) → anyBelow n p ≡ anyBelow m p
@@ -89,10 +79,7 @@ module _ (m o : Model) (x : Extends m o) where
       each j g true d = ap₂ _&&_ (x .done j) (g d)
       each j g false d = rw (d, sym (x .done j) ∙ d) refl
   extends-scoped (has v l) s ρ e h = x .labelled (ρ v) l (h v e)
-  extends-scoped (before v w) s ρ e h = x .relates Relation.before (ρ v) (ρ w) (h v (and-left (s v) (s w) e)) (h w (and-right (s v) (s w) e))
-  extends-scoped (overlaps v w) s ρ e h = x .relates Relation.overlaps (ρ v) (ρ w) (h v (and-left (s v) (s w) e)) (h w (and-right (s v) (s w) e))
-  extends-scoped (includes v w) s ρ e h = x .relates Relation.includes (ρ v) (ρ w) (h v (and-left (s v) (s w) e)) (h w (and-right (s v) (s w) e))
-  extends-scoped (same v w) s ρ e h = x .alike (ρ v) (ρ w) (h v (and-left (s v) (s w) e)) (h w (and-right (s v) (s w) e))
+  extends-scoped (pair p v w) s ρ e h = x .paired p (ρ v) (ρ w) (h v (and-left (s v) (s w) e)) (h w (and-right (s v) (s w) e))
 
   pub eval-extends : (f : Formula) (ρ : Binding) → scoped f noScope ≡ true → eval m ρ f ≡ eval o ρ f
   eval-extends f ρ e = extends-scoped f noScope ρ e (λ v h. no-both (sym h))

@@ -7,30 +7,23 @@ use native.Mathlib.Omega.{arith}
 use lib.Dec.{eqb}
 use lib.ListN.{length}
 use borrow.Author.Tests.{ltb-true, ltb-false, eqb-true, eqb-false}
-use Rattle.lists.specs.Lists.{same?}
+use Rattle.lists.specs.Lists.{anyBelow, same?}
 use Rattle.lists.specs.Tells.{Tells}
 use Rattle.lists.proofs.Cases.{either-eq, no-both}
 use Rattle.lists.proofs.Tells.{tell-no, tell-yes, tell-by}
 use Rattle.lists.proofs.Lists.{same-refl, same-eq}
 use Rattle.labels.specs.Label.{text}
 use Rattle.labels.specs.Table.{labelAt}
-use Rattle.trace.specs.Trace.{Trace, runAt, start, finish}
+use Rattle.trace.specs.Trace.{Trace, runAt, endLine, start, finish}
 use Rattle.relations.specs.Relation as Relation
 use Rattle.relations.specs.Runs.{FinishedRun, finished?}
 use Rattle.relations.proofs.Relation.{relates-tells}
 use Rattle.relations.proofs.Runs.{finished-run}
-use Rattle.rules.specs.Formula.{Formula, both, neg, exists, has, before, overlaps, includes, same}
-use Rattle.logic.specs.Satisfies.{Binding, bind, HasLabel, Related, SameLabel, Satisfies}
-use Rattle.logic.specs.Model.{anyBelow, eval, numberAt, hasLabel?, related?, sameLabel?, modelOf}
+use Rattle.rules.specs.Formula.{Formula, both, neg, exists, has, pair}
+use Rattle.logic.specs.Satisfies.{Binding, bind, HasLabel, Related, SameLabel, Between, related, alike, between, HoldsBetween, Satisfies}
+use Rattle.logic.specs.Model.{eval, numberAt, hasLabel?, related?, sameLabel?, holdsBetween?, modelOf}
 
 -- ── tests put together ──
--- two tests of one claim are the same
-pub agree : {P : Type 0} (a b : Bool) → Tells a P → Tells b P → a ≡ b
-agree true true p q = refl
-agree true false p q = absurd (q .no refl (p .yes refl))
-agree false true p q = absurd (p .no refl (q .yes refl))
-agree false false p q = refl
-
 pub tell-both : {A B : Type 0} (a b : Bool) → Tells a A → Tells b B → Tells (a && b) (A × B)
 tell-both true true p q = tell-yes (p .yes refl, q .yes refl)
 tell-both true false p q = tell-no (λ h. q .no refl (h .1))
@@ -62,7 +55,7 @@ tell-any P p d (suc n) = any-more P (anyBelow n p) (p n) n (tell-any P p d n) (d
 -- ── the parts of a formula ──
 module _ (t : Trace) where
   tell-finished : (j : ℕ) → Tells (finished? t j) (FinishedRun t j)
-  tell-finished j = record { yes = λ e. finished-run t j (ltb-true 0 (finish (runAt t j)) e); no = λ e h. omega (arith, ltb-false 0 (finish (runAt t j)) e, h .ended) }
+  tell-finished j = record { yes = λ e. finished-run t j (ltb-true 0 (endLine (runAt t j)) e); no = λ e h. omega (arith, ltb-false 0 (endLine (runAt t j)) e, h .ended) }
 
   tell-label : (j : ℕ) (l : List ℕ) → Tells (hasLabel? t j l) (HasLabel t j l)
   tell-label j l =
@@ -72,7 +65,7 @@ module _ (t : Trace) where
   pub tell-related : (r : Relation.Relation) (j k : ℕ) → Tells (related? r t j k) (Related r t j k)
   tell-related r j k =
       tell-by (λ h. record { first = h .0; second = h .1 .0; relates = h .1 .1 }) (λ h. (h .first, (h .second, h .relates)))
-      (tell-both _ _ (tell-finished j) (tell-both _ _ (tell-finished k) (relates-tells r (start (runAt t j)) (finish (runAt t j)) (start (runAt t k)) (finish (runAt t k)))))
+      (tell-both _ _ (tell-finished j) (tell-both _ _ (tell-finished k) (relates-tells r (start t j) (finish t j) (start t k) (finish t k))))
 
   tell-alike : (j k : ℕ) → Tells (sameLabel? t j k) (SameLabel t j k)
   tell-alike j k =
@@ -81,6 +74,10 @@ module _ (t : Trace) where
       (λ h. record { label = l; first = record { labelled = h .0; bytes = refl }; second = h .1 })
       (λ h. (h .first .labelled, subst (HasLabel t k) (sym (h .first .bytes)) (h .second)))
       (tell-both _ _ (tell-not _ (tell-eq (numberAt t j) 0)) (tell-label k l))
+
+  tell-between : (b : Between) (j k : ℕ) → Tells (holdsBetween? b t j k) (HoldsBetween b t j k)
+  tell-between (related r) j k = tell-related r j k
+  tell-between alike j k = tell-alike j k
 
   -- THE LAW: the test is true exactly if the formula is satisfied
   pub eval-decides : (ρ : Binding) (f : Formula) → Tells (eval (modelOf t) ρ f) (Satisfies t ρ f)
@@ -94,7 +91,4 @@ module _ (t : Trace) where
       (tell-any (λ j. FinishedRun t j × Satisfies t (bind ρ v j) f) (λ j. finished? t j && eval (modelOf t) (bind ρ v j) f)
       (λ j. tell-both _ _ (tell-finished j) (eval-decides (bind ρ v j) f)) (length (t .runs)))
   eval-decides ρ (has v l) = tell-label (ρ v) l
-  eval-decides ρ (before v w) = tell-related Relation.before (ρ v) (ρ w)
-  eval-decides ρ (overlaps v w) = tell-related Relation.overlaps (ρ v) (ρ w)
-  eval-decides ρ (includes v w) = tell-related Relation.includes (ρ v) (ρ w)
-  eval-decides ρ (same v w) = tell-alike (ρ v) (ρ w)
+  eval-decides ρ (pair p v w) = tell-between (between p) (ρ v) (ρ w)

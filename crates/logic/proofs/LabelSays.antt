@@ -21,7 +21,7 @@ use Rattle.labels.proofs.Table.{index-has, index-none, with-few, with-new, with
 use Rattle.lines.specs.Event.{Event}
 use Rattle.lines.specs.Line.{eventOf}
 use Rattle.trace.specs.Trace.{Trace, next, noRun, begin, end, apply, Accepted}
-use Rattle.trace.proofs.Taken.{event-taken}
+use Rattle.trace.proofs.Taken.{event-taken, line-event}
 use Rattle.trace.proofs.Induction.{accepted-keeps}
 use Rattle.trace.proofs.Accepted.{Orderly}
 use Rattle.logic.specs.Satisfies.{HasLabel, SameLabel}
@@ -54,7 +54,7 @@ written-step t u e w =
     e
 
 pub accepted-written : (log : List ℕ) (t : Trace) → Accepted log t → Written (t .labels)
-accepted-written log t a = accepted-keeps (λ _ t. Written (t .labels)) (λ l ls t u w e. written-step t u (eventOf l) w e) log t a (λ k h. absurd (omega arith))
+accepted-written log t a = accepted-keeps (λ _ t. Written (t .labels)) (λ l ls t u w e. written-step t u (eventOf l) w (line-event t u l e)) log t a (λ k h. absurd (omega arith))
 
 -- ── numbers ──
 module _ (ls : List Label) (written : Written ls) (distinct : Distinct ls) where

@@ -19,16 +19,16 @@ use Rattle.labels.proofs.Table.{label-kept}
 use Rattle.lines.specs.Event.{begins}
 use Rattle.lines.specs.Line.{eventOf}
 use Rattle.trace.specs.declared.Run.{Run}
-use Rattle.trace.specs.Trace.{Trace, next, noRun, newRun, runAt, start, finish, begin, end, apply, applyTo, beginRun, endRun, endOf, close, step, read, Accepted}
+use Rattle.trace.specs.Trace.{Trace, next, noRun, newRun, runAt, beginLine, endLine, begin, end, apply, applyTo, beginRun, endRun, endOf, close, step, read, Accepted}
 use Rattle.trace.proofs.Examples.{run}
 use Rattle.trace.proofs.Taken.{begin-taken}
 use Rattle.trace.proofs.Accepted.{Orderly, accepted-orderly}
 use Rattle.relations.specs.Relation as Relation
 use Rattle.relations.specs.Runs.{finished?}
-use Rattle.rules.specs.Formula.{Formula, both, neg, exists, has, before, noScope, scoped}
+use Rattle.rules.specs.Formula.{before, Formula, both, neg, exists, has, pair, noScope, scoped}
 use Rattle.logic.specs.declared.Verdict.the-variants.{Holds, Fails}
-use Rattle.logic.specs.Satisfies.{Binding, Satisfies, SameLabel}
-use Rattle.logic.specs.Model.{eval, modelOf, numberAt, hasLabel?, related?, sameLabel?}
+use Rattle.logic.specs.Satisfies.{Binding, SameLabel, Between, related, alike, between, Satisfies}
+use Rattle.logic.specs.Model.{eval, numberAt, hasLabel?, related?, sameLabel?, holdsBetween?, modelOf}
 use Rattle.logic.specs.Verdict.{verdictOf}
 use Rattle.logic.proofs.Decides.{eval-decides}
 use Rattle.logic.proofs.Closed.{Extends, eval-extends}
@@ -36,7 +36,7 @@ use Rattle.logic.proofs.Examples.{After, after, left, test-label}
 
 -- ── an open run changes no verdict ──
 -- a run that is open has no finish, as if it were not there
-open-finish : (rs : List Run) (r : Run) → finish r ≡ 0 → (j : ℕ) → finish (getD rs j noRun) ≡ finish (getD (rs ++ (r ∷ [])) j noRun)
+open-finish : (rs : List Run) (r : Run) → endLine r ≡ 0 → (j : ℕ) → endLine (getD rs j noRun) ≡ endLine (getD (rs ++ (r ∷ [])) j noRun)
 open-finish [] r h zero = sym h
 open-finish [] r h (suc j) = refl
 open-finish (q ∷ rs) r h zero = refl
@@ -53,7 +53,7 @@ module _ (t : Trace) (o : Orderly t) (i : ℕ) (x : Label) where
   begun : (j : ℕ) → finished? t j ≡ true → j < length (t .runs)
   begun j e =
       either-lt j (length (t .runs)) (λ h. h)
-      (λ h. let z : finish (runAt t j) ≡ 0 = ap finish (List·getD-eq-default (t .runs) noRun h) in absurd (omega (arith, ltb-true 0 (finish (runAt t j)) e)))
+      (λ h. let z : endLine (runAt t j) ≡ 0 = ap endLine (List·getD-eq-default (t .runs) noRun h) in absurd (omega (arith, ltb-true 0 (endLine (runAt t j)) e)))
 
   run-same : (j : ℕ) → finished? t j ≡ true → runAt t j ≡ runAt u j
   unfolding begin
@@ -76,10 +76,14 @@ module _ (t : Trace) (o : Orderly t) (i : ℕ) (x : Label) where
 
   related-same : (r : Relation.Relation) (j k : ℕ) → finished? t j ≡ true → finished? t k ≡ true → related? r t j k ≡ related? r u j k
   related-same r j k d e =
-      ap₂ (λ (a b : Run). ltb 0 (finish a) && (ltb 0 (finish b) && Relation.relates? r (start a) (finish a) (start b) (finish b))) (run-same j d) (run-same k e)
+      ap₂ (λ (a b : Run). ltb 0 (endLine a) && (ltb 0 (endLine b) && Relation.relates? r (beginLine a) (endLine a) (beginLine b) (endLine b))) (run-same j d) (run-same k e)
 
   alike-same : (j k : ℕ) → finished? t j ≡ true → finished? t k ≡ true → sameLabel? t j k ≡ sameLabel? u j k
   alike-same j k d e = text-same j d (λ s. hasLabel? t k s) ∙ ap (λ (b : Bool). not (eqb (numberAt u j) 0) && b) (label-same k (text (labelAt (u .labels) (numberAt u j))) e)
+
+  between-same : (b : Between) (j k : ℕ) → finished? t j ≡ true → finished? t k ≡ true → holdsBetween? b t j k ≡ holdsBetween? b u j k
+  between-same (related r) = related-same r
+  between-same alike = alike-same
 
   begin-extends : Extends (modelOf t) (modelOf u)
   unfolding begin
@@ -87,10 +91,9 @@ module _ (t : Trace) (o : Orderly t) (i : ℕ) (x : Label) where
       record {
         runs = omega (arith, length-append (t .runs) (newRun i (t .lines + 1) (numberOf (t .labels) x) ∷ []));
         done = done-same;
-        unfinished = λ j h. sym (done-same j) ∙ ap (λ (r : Run). ltb 0 (finish r)) (List·getD-eq-default (t .runs) noRun h);
+        unfinished = λ j h. sym (done-same j) ∙ ap (λ (r : Run). ltb 0 (endLine r)) (List·getD-eq-default (t .runs) noRun h);
         labelled = label-same;
-        relates = related-same;
-        alike = alike-same;
+        paired = λ p. between-same (between p);
       }
 
 module _ (log : List ℕ) (t : Trace) (a : Accepted log t) (i : ℕ) (l : List ℕ) (u : Trace) (e : apply t (begins i l) ≡ next u) (f : Formula) (c : scoped f noScope ≡ true) where
@@ -120,7 +123,7 @@ no-label-no-same t j k e = (λ h. h .first .labelled e, λ h. h .second .labelle
 -- ── a verdict can change with every later line ──
 -- ""no TEST without a run after it" fails when a TEST ends and holds again once a later run has finished"
 abbrev pub noTestWithoutRunAfter : Formula
-noTestWithoutRunAfter = neg (exists 0 (both (has 0 (bytes "TEST")) (neg (exists 1 (before 0 1)))))
+noTestWithoutRunAfter = neg (exists 0 (both (has 0 (bytes "TEST")) (neg (exists 1 (pair before 0 1)))))
 
 pub record NotForGood : Type 0 where
   pub begun : After (bytes "B 1 TEST\n") noTestWithoutRunAfter Holds

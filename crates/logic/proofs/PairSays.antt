@@ -5,15 +5,16 @@ use mathlib.Core.Logic.{_↔_}
 use mathlib.Core.List.{List}
 use lib.Dec.{eqb}
 use Rattle.lists.specs.Tells.{Tells}
-use Rattle.lists.proofs.Tells.{tell-by}
+use Rattle.lists.proofs.Tells.{tell-by, agree}
 use Rattle.trace.specs.Trace.{Trace, Accepted}
 use Rattle.pairs.specs.Pairs.{pairByte}
 use Rattle.relations.specs.Relation as Relation
 use Rattle.relations.specs.Runs.{FinishedRun, RelatesRuns}
 use Rattle.relations.proofs.Pairs.{pair-byte-noted}
+use Rattle.rules.specs.Formula.{before, overlaps, includes}
 use Rattle.logic.specs.Satisfies.{Related}
 use Rattle.logic.specs.Model.{modelOf}
-use Rattle.logic.proofs.Decides.{tell-eq, agree, tell-related}
+use Rattle.logic.proofs.Decides.{tell-eq, tell-related}
 
 module _ (log : List ℕ) (t : Trace) (accepted : Accepted log t) (x y : ℕ) where
   -- a byte that notes a relation tells it
@@ -34,11 +35,11 @@ module _ (log : List ℕ) (t : Trace) (accepted : Accepted log t) (x y : ℕ) wh
   byte-7 = noted-tells Relation.includes 7 (pair-byte-noted log t accepted x y .is-includes)
 
   -- THE LAW: a pair byte is 5, 6 or 7 exactly where the two runs, both finished, are so related
-  pub before-byte : modelOf t .relates Relation.before x y ≡ eqb (pairByte (t .runs) x y) 5
+  pub before-byte : modelOf t .paired before x y ≡ eqb (pairByte (t .runs) x y) 5
   before-byte = agree _ _ (tell-related t Relation.before x y) byte-5
 
-  pub overlaps-byte : modelOf t .relates Relation.overlaps x y ≡ eqb (pairByte (t .runs) x y) 6
+  pub overlaps-byte : modelOf t .paired overlaps x y ≡ eqb (pairByte (t .runs) x y) 6
   overlaps-byte = agree _ _ (tell-related t Relation.overlaps x y) byte-6
 
-  pub includes-byte : modelOf t .relates Relation.includes x y ≡ eqb (pairByte (t .runs) x y) 7
+  pub includes-byte : modelOf t .paired includes x y ≡ eqb (pairByte (t .runs) x y) 7
   includes-byte = agree _ _ (tell-related t Relation.includes x y) byte-7

@@ -11,7 +11,7 @@ use Rattle.labels.specs.Table.{labelAt}
 use Rattle.trace.specs.Trace.{Trace, runAt}
 use Rattle.relations.specs.Relation as Relation
 use Rattle.relations.specs.Runs.{FinishedRun, RelatesRuns}
-use Rattle.rules.specs.Formula.{Formula, both, neg, exists, has, before, overlaps, includes, same}
+use Rattle.rules.specs.Formula.{Pairing, before, overlaps, includes, same, Formula, both, neg, exists, has, pair}
 
 -- "ρ is a mapping from the interval variables to a domain": the number of the run that each variable stands for
 abbrev pub Binding : Type 0
@@ -39,6 +39,26 @@ pub record SameLabel (t : Trace) (j k : ℕ) : Type 0 where
   pub first : HasLabel t j label
   pub second : HasLabel t k label
 
+-- what can hold between two runs: a relation of their start and finish, or that some label belongs to both
+pub data Between : Type 0 where
+  related : Relation.Relation → Between
+  alike : Between
+
+-- what each pairing of variables A and B says of ρ(A) = j and ρ(B) = k, in the order of 000:
+abbrev pub between : Pairing → Between
+-- (A < B) if finish(j) < start(k)
+between before = related Relation.before
+-- (A o B) if start(j) < start(k) < finish(j) < finish(k)
+between overlaps = related Relation.overlaps
+-- (A i B) if start(j) < start(k) < finish(k) < finish(j)
+between includes = related Relation.includes
+-- same(A, B): some label belongs to both
+between same = alike
+
+abbrev pub HoldsBetween : Between → Trace → ℕ → ℕ → Type 0
+HoldsBetween (related r) t j k = Related r t j k
+HoldsBetween alike t j k = SameLabel t j k
+
 -- (ρ, σ) ⊨ φ, in the order of 000:
 unfoldable pub Satisfies : Trace → Binding → Formula → Type 0
 -- (φ ∧ ψ) if φ and ψ
@@ -47,13 +67,7 @@ Satisfies t ρ (both f g) = Satisfies t ρ f × Satisfies t ρ g
 Satisfies t ρ (neg f) = Satisfies t ρ f → ⊥
 -- A(d) if ρ(A) = j and data(j) = d
 Satisfies t ρ (has v l) = HasLabel t (ρ v) l
--- (A < B) if finish(j) < start(k)
-Satisfies t ρ (before v w) = Related Relation.before t (ρ v) (ρ w)
--- (A o B) if start(j) < start(k) < finish(j) < finish(k)
-Satisfies t ρ (overlaps v w) = Related Relation.overlaps t (ρ v) (ρ w)
--- (A i B) if start(j) < start(k) < finish(k) < finish(j)
-Satisfies t ρ (includes v w) = Related Relation.includes t (ρ v) (ρ w)
+-- (A < B), (A o B), (A i B), same(A, B) if it holds between ρ(A) and ρ(B)
+Satisfies t ρ (pair p v w) = HoldsBetween (between p) t (ρ v) (ρ w)
 -- ∃A φ if there are begin(j) and end(j) among the lines with φ under ρ[A ↦ j]
 Satisfies t ρ (exists v f) = (j : ℕ) × FinishedRun t j × Satisfies t (bind ρ v j) f
--- same(A, B): some label belongs to both
-Satisfies t ρ (same v w) = SameLabel t (ρ v) (ρ w)

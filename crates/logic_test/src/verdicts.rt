@@ -11,7 +11,7 @@ use trace::Record;
 fn write_verdict(file: &[u8], x: Rule, r: Record)
     requires { ⌜ Taken (now file) x ⌝ }
 {
-    if !trace::is_record(r) {
+    if !replay::is_record(r) {
         return;
     }
     let v = timeline::judge_last(file, x, r);
@@ -63,7 +63,7 @@ fn show_log(file: &[u8], x: Rule, log: &[u8])
 
 // Reads a rule file and writes its verdicts over a log.
 pub fn show(file: &[u8], log: &[u8]) {
-    let r = rules::read_rule(file);
+    let r = rule_file::read_rule(file);
     match r {
         RuleRead::Rule(x) => show_log(file, x, log),
         RuleRead::Refused(code) => {

@@ -1,10 +1,4 @@
-pub mod Marks
 pub mod Masks
-pub mod Truth
-pub mod Rowed
-pub mod Atoms
-pub mod Nodes
 pub mod Tried
-pub mod Turns
 pub mod Open
 pub mod Ready

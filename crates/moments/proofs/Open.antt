@@ -7,6 +7,7 @@ use native.Mathlib.Omega.{arith}
 use lib.Dec.{eqb, ltb, leb}
 use lib.ListN.{getD}
 use borrow.Author.Tests.{eqb-true, lt-ltb}
+use Rattle.lists.proofs.Below.{found-at}
 use Rattle.lists.proofs.Cases.{no-both, and-left, and-right}
 use Rattle.sets.specs.Sets.{bit, mem}
 use Rattle.sets.specs.declared.RunSet.{RunSet}
@@ -16,13 +17,13 @@ use Rattle.rules.specs.declared.Node.{Node}
 use Rattle.rules.proofs.Formulas.{formula-and, formula-some}
 use Rattle.logic.specs.Satisfies.{Binding, bind}
 use Rattle.logic.specs.Model.{Model, eval}
-use Rattle.moments.specs.Truth.{truth, each, at, Fixed, TrueAt, FalseWithout}
+use Rattle.matrix.specs.Truth.{truth, each, at, Fixed, TrueAt, FalseWithout}
 use Rattle.shape.specs.Shape.{flat?, free?}
 use Rattle.moments.specs.Shape.{Heights, Frees}
 use Rattle.moments.specs.Open.{Keeps, Apart, Marked}
-use Rattle.moments.proofs.Marks.{at-each-fixed}
+use Rattle.matrix.proofs.Marks.{at-each-fixed}
 use Rattle.moments.proofs.Masks.{marked-on, marked-more}
-use Rattle.moments.proofs.Truth.{height-flat, flat-truth, free-truth, found-at}
+use Rattle.matrix.proofs.Truth.{height-flat, flat-truth, free-truth}
 
 -- ── formulas ──
 module _ (M : Model) (ρ : Binding) where

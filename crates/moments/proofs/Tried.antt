@@ -1,35 +1,20 @@
--- The search for a run: run after run, and at once where the body has no "some".
-use Prim.Native.Nat.{ℕ, _+_, _<_, _≤_}
+-- The search for a run, run after run.
+use Prim.Native.Nat.{ℕ, _+_, _<_}
 use mathlib.Core.Path.{_≡_, refl, sym, subst, ap, ap₂, _∙_}
 use mathlib.Core.Bool.{Bool, true, false, not, _&&_, _||_, and-false}
 use native.Mathlib.Numerals.{add-one}
-use native.Mathlib.Omega.{arith}
-use lib.Dec.{ltb, leb}
+use lib.Dec.{leb}
+use Rattle.lists.specs.Lists.{anyBelow}
 use Rattle.lists.proofs.Cases.{no-both}
-use Rattle.sets.specs.Sets.{mem, anyUpTo}
+use Rattle.sets.specs.Sets.{mem}
 use Rattle.sets.specs.declared.RunSet.{RunSet}
+use Rattle.set_table.specs.Rows.{LeftOf}
 use Rattle.rules.specs.Formula.{Formula, exists}
 use Rattle.logic.specs.Satisfies.{Binding, bind}
-use Rattle.logic.specs.Model.{Model, anyBelow, eval}
-use Rattle.moments.specs.Truth.{truth, each, at, Fixed, TrueAt, FalseWithout}
-use Rattle.shape.specs.Shape.{height}
-use Rattle.moments.specs.Matrix.{Narrowed}
-use Rattle.moments.proofs.Marks.{at-bind, at-each-fixed}
-use Rattle.moments.proofs.Truth.{height-flat, flat-truth, up-to-moment, any-up-agree}
+use Rattle.logic.specs.Model.{Model, eval}
+use Rattle.matrix.specs.Truth.{truth, at, TrueAt, FalseWithout}
+use Rattle.matrix.proofs.Marks.{at-bind}
 
--- ── the moments that are left ──
--- the moments of dom from r on that are not in got; none where keep lacks r
-abbrev pub LeftOf : RunSet → RunSet → RunSet → ℕ → RunSet → Type 0
-LeftOf dom got keep r s = (j : ℕ) → mem s j ≡ (mem keep r && ((mem dom j && leb r j) && not (mem got j)))
-
-pub left-kept : (dom got keep above s : RunSet) (b : Bool) (r : ℕ) → b ≡ mem keep r → b ≡ true → ((j : ℕ) → mem above j ≡ (mem dom j && leb r j)) → ((j : ℕ) → mem s j ≡ (mem above j && not (mem got j))) → LeftOf dom got keep r s
-left-kept dom got keep above s b r e t f g j =
-    g j ∙ (ap (λ (x : Bool). x && not (mem got j)) (f j) ∙ ap (λ (x : Bool). x && ((mem dom j && leb r j) && not (mem got j))) (sym t ∙ e))
-
-pub left-dropped : (dom got keep s : RunSet) (b : Bool) (r : ℕ) → b ≡ mem keep r → b ≡ false → ((j : ℕ) → mem s j ≡ false) → LeftOf dom got keep r s
-left-dropped dom got keep s b r e t g j = g j ∙ ap (λ (x : Bool). x && ((mem dom j && leb r j) && not (mem got j))) (sym t ∙ e)
-
--- ── run after run ──
 -- With d: the moment is in dom, a: a run tried before serves, l: run r is finished, f: the body holds with run r, k: run r is kept.
 one-more : (d a l f k : Bool) → (k ≡ false → f ≡ false) → ((d && a) || ((k && ((d && l) && not (d && a))) && f)) ≡ (d && (a || (l && f)))
 one-more false a l f true h = refl
@@ -81,18 +66,3 @@ module _ (M : Model) (f : Formula) (ρ : Binding) (v : ℕ) (dom : RunSet) where
         rw (add-one r)
         (old j h ∙ none-left (mem dom j) (anyBelow r (serves j)) (leb r j) (truth M f (bind (at ρ j) v r) j) (mem keep r) (λ q. dropped r fin q j j)
         (sym (left-is j h) ∙ z j))
-
--- ── at once ──
--- a body without "some" does not depend on the moment: from the first run on that satisfies it, "some" is true
-module _ (M : Model) (f : Formula) (ρ σ : Binding) (v : ℕ) (dom finished found r : RunSet) where
-  pub some-at-once : Fixed ρ → height f ≡ 0 → σ ≡ bind ρ v each → ((j : ℕ) → mem finished j ≡ ltb j (M .runs)) → TrueAt M f σ finished found
-      → Narrowed (λ j. anyUpTo j (mem found)) dom r → TrueAt M (exists v f) ρ dom r
-  unfolding eval
-  some-at-once fx low e hf ht hr j h =
-      let served : ℕ → Bool = λ i. truth M f (bind (at ρ j) v i) j in
-      let one : (i : ℕ) → i ≤ j → mem found i ≡ (ltb i (M .runs) && served i) =
-      λ i l.
-      ht i (omega (arith, l))
-      ∙ ap₂ _&&_ (hf i)
-      (ap (λ (τ : Binding). truth M f τ i) (ap (λ (τ : Binding). at τ i) e ∙ at-each-fixed ρ v i j fx) ∙ flat-truth M i j f (bind (at ρ j) v i) (height-flat f low)) in
-      hr j h ∙ ap (λ (x : Bool). mem dom j && x) (any-up-agree (mem found) (λ i. ltb i (M .runs) && served i) j one ∙ up-to-moment (M .runs) j served)

@@ -1,6 +1,3 @@
-pub mod Truth
 pub mod Shape
-pub mod Rows
-pub mod Matrix
 pub mod Open
 pub mod Ready

@@ -1,16 +1,15 @@
 // How the search for a run goes, and what it leaves out: moments and runs that need no look.
 ghost use mathlib.Core.Path.{_≡_};
-ghost use mathlib.Core.Bool.{true, not, _&&_};
-ghost use Prim.Native.Nat.{ℕ, _<_};
-ghost use lib.Dec.{leb};
+ghost use mathlib.Core.Bool.{true};
+ghost use Prim.Native.Nat.{_<_};
 ghost use lib.ListN.{length, getD};
 ghost use Rattle.lists.specs.Tells.{Tells};
-ghost use Rattle.sets.specs.Sets.{mem};
-ghost use Rattle.moments.specs.Truth.{Fixed};
+ghost use Rattle.rules.specs.Limits.{variables};
+ghost use Rattle.matrix.specs.Truth.{Fixed};
 ghost use Rattle.moments.specs.Open.{Apart, Marked};
-ghost use Rattle.moments.specs.Ready.{binding, InRange};
+ghost use Rattle.matrix.specs.Ready.{binding, InRange};
 use crate::Bindings;
-use crate::ranks::fixed;
+use matrix::ranks::fixed;
 use sets::RunSet;
 
 // Up to so many runs of a word are few.
@@ -37,18 +36,6 @@ fn many(s: RunSet) -> bool {
     u64::count_ones(s.lo) > FEW || u64::count_ones(s.hi) > FEW
 }
 
-// The moments of dom from r on that are not in got; none if r is not in keep.
-pub fn left_of(dom: RunSet, got: RunSet, keep: RunSet, r: usize) -> RunSet
-    requires { ⌜ r < 128 ⌝ }
-    ensures { λ s. ⌜ ((j : ℕ) → mem s j ≡ (mem keep r && ((mem dom j && leb r j) && not (mem got j)))) ⌝ }
-{
-    if sets::has(keep, r) {
-        sets::minus(sets::from(dom, r), got)
-    } else {
-        sets::empty()
-    }
-}
-
 // Whether two masks have no variable in common.
 fn apart(a: u8, b: u8) -> bool
     ensures { λ r. ⌜ Tells r (Apart a b) ⌝ }
@@ -58,7 +45,7 @@ fn apart(a: u8, b: u8) -> bool
 
 // The mask with variable v.
 pub fn marked(b: u8, v: usize) -> u8
-    requires { ⌜ v < 4 ⌝ }
+    requires { ⌜ v < variables ⌝ }
     ensures { λ r. ⌜ Marked b v r ⌝ }
 {
     b | (1u8 << v)

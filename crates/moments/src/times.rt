@@ -4,26 +4,28 @@ ghost use mathlib.Core.Path.{_≡_};
 ghost use Prim.Native.Nat.{_<_};
 ghost use lib.ListN.{getD};
 ghost use Rattle.sets.specs.Sets.{bit};
+ghost use Rattle.rules.specs.Limits.{variables};
 ghost use Rattle.rules.specs.Formula.{exists};
 ghost use Rattle.rules.specs.Table.{formulaAt};
 ghost use Rattle.logic.specs.Model.{Model};
-ghost use Rattle.moments.specs.Truth.{Fixed, TrueAt, FalseWithout};
-ghost use Rattle.moments.specs.Rows.{RowsOf};
+ghost use Rattle.matrix.specs.Truth.{Fixed, TrueAt, FalseWithout};
+ghost use Rattle.matrix.specs.Rows.{RowsOf};
 ghost use Rattle.moments.specs.Open.{Keeps};
-ghost use Rattle.moments.specs.Ready.{binding, Ready};
+ghost use Rattle.matrix.specs.Ready.{binding};
+ghost use Rattle.moments.specs.Ready.{Ready};
 use crate::Bindings;
-use crate::EACH;
 use crate::Rank;
-use crate::keep::some_rows;
-use crate::ranks::fixed;
-use crate::ranks::rebound;
 use crate::search::by_rows;
 use crate::search::closed;
-use crate::search::left_of;
 use crate::search::marked;
 use crate::search::unmarked_height;
-use crate::table::atom_set;
+use matrix::EACH;
+use matrix::keep::some_rows;
+use matrix::ranks::fixed;
+use matrix::ranks::rebound;
+use matrix::table::atom_set;
 use rules::table::node_at;
+use set_table::left_of;
 use sets::RunSet;
 
 // The moments of dom at which the formula of a node is true. What it answers for a table that is no model's rows is left free.
@@ -75,7 +77,7 @@ fn some(
     dom: RunSet,
 ) -> RunSet
     requires { ⌜ Ready (now file) first (now heights) (now frees) (now table) runs child b ⌝ }
-    requires { ⌜ v < 4 ⌝ }
+    requires { ⌜ v < variables ⌝ }
     ensures { λ r. ⌜ ((M : Model) → RowsOf (now (table .entry)) (now (file .entry)) runs M
         → TrueAt M (exists v (formulaAt (now (file .entry)) first child)) (binding b) dom r) ⌝ }
 {
@@ -117,7 +119,7 @@ fn some_flat(
     dom: RunSet,
 ) -> RunSet
     requires { ⌜ Ready (now file) first (now heights) (now frees) (now table) runs child b ⌝ }
-    requires { ⌜ v < 4 ⌝ }
+    requires { ⌜ v < variables ⌝ }
     requires { ⌜ (getD (now heights) child 0 ≡ 0) × Fixed (binding b) ⌝ }
     ensures { λ r. ⌜ ((M : Model) → RowsOf (now (table .entry)) (now (file .entry)) runs M
         → TrueAt M (exists v (formulaAt (now (file .entry)) first child)) (binding b) dom r) ⌝ }
@@ -143,7 +145,7 @@ fn some_loop(
     keep: RunSet,
 ) -> RunSet
     requires { ⌜ Ready (now file) first (now heights) (now frees) (now table) runs child b ⌝ }
-    requires { ⌜ v < 4 ⌝ }
+    requires { ⌜ v < variables ⌝ }
     ensures { λ r. ⌜ ((M : Model) → RowsOf (now (table .entry)) (now (file .entry)) runs M
         → FalseWithout M (formulaAt (now (file .entry)) first child) (binding b) v keep
         → TrueAt M (exists v (formulaAt (now (file .entry)) first child)) (binding b) dom r) ⌝ }
@@ -207,7 +209,7 @@ fn kept(
     b: Bindings,
 ) -> RunSet
     requires { ⌜ Ready (now file) first (now heights) (now frees) (now table) runs child b ⌝ }
-    requires { ⌜ v < 4 ⌝ }
+    requires { ⌜ v < variables ⌝ }
     ensures { λ r. ⌜ ((M : Model) → RowsOf (now (table .entry)) (now (file .entry)) runs M
         → FalseWithout M (formulaAt (now (file .entry)) first child) (binding b) v r) ⌝ }
 {

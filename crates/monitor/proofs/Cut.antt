@@ -17,20 +17,21 @@ use Rattle.lines.specs.Log.{linesOf, scan, nextLine}
 use Rattle.lines.specs.declared.Next.{Next}
 use Rattle.lines.specs.declared.Next.the-variants as Next
 use Rattle.lines.proofs.Log.{Handed, line-is-handed-out, done-means-no-lines, Spoilt, refused-line-is-faulty}
-use Rattle.trace.specs.Trace.{Trace, noTrace, apply, Accepted}
+use Rattle.trace.specs.Trace.{Trace, noTrace, Accepted}
 use Rattle.trace.proofs.Grown.{taken-grows, no-bytes}
 use Rattle.trace.proofs.Size.{accepted-short}
+use Rattle.pairs.specs.Grid.{workSize}
 use Rattle.pairs.specs.Pairs.{workOf}
 use Rattle.rules.specs.declared.Rule.{Rule}
 use Rattle.rules.specs.Rules.{ruleOf, formulaOf}
 use Rattle.logic.specs.Verdict.{verdictByte, verdictOf}
 use Rattle.reading.specs.declared.Ending.the-variants.{Refused}
-use Rattle.monitor.specs.Line.{withRule}
+use Rattle.single.specs.Line.{withRule}
 use Rattle.reading.specs.Reading.{ended}
 use Rattle.monitor.specs.Log.{notRead, linesFrom, logOf}
 use Rattle.monitor.specs.Repeated.{Result}
-use Rattle.reading.specs.Reading.{lineBetween}
-use Rattle.reading.proofs.Lines.{by-answer}
+use Rattle.reading.specs.Turns.{lineBetween}
+use Rattle.trace.proofs.Taken.{by-answer, line-faulty}
 use Rattle.monitor.proofs.Lines.{from-taken, from-refused}
 
 -- ── what is looked at ──
@@ -78,9 +79,8 @@ module _ (log : List ℕ) where
     -- a first line that is refused with 11
     faulty-from : (t : Trace) (out : List ℕ) (ls : List (List ℕ)) (l : List ℕ) (later : List (List ℕ)) → ls ≡ l ∷ later → eventOf l ≡ faulty 11
         → linesFrom file x t ls w out ≡ (ended t (Refused 11 (t .lines + 1)), workOf (t .runs) w, out)
-    unfolding apply
     faulty-from t out ls l later e says =
-        ap (λ (k : List (List ℕ)). linesFrom file x t k w out) e ∙ from-refused file x t l later w out 11 (ap (apply t) says)
+        ap (λ (k : List (List ℕ)). linesFrom file x t k w out) e ∙ from-refused file x t l later w out 11 (line-faulty t l 11 says)
 
     -- from a place that is reached, both logs give the same; n places at most are left
     same-from : (n p : ℕ) (t : Trace) (out : List ℕ) → length log - p < n → p ≤ length log → Accepted (take p log) t
@@ -122,5 +122,5 @@ module _ (log : List ℕ) where
 pub first-bytes-decide : (file log w out : List ℕ) → logOf file log w out ≡ logOf file (take 8192 log) w out
 unfolding logOf
 first-bytes-decide file log w out =
-    ap (λ (f : Rule → Result). cond (ltb (length w) 16384 || ltb (length out) 256) (notRead 20, w, out) (withRule (ruleOf file) (λ n. (notRead n, w, out)) f))
+    ap (λ (f : Rule → Result). cond (ltb (length w) workSize || ltb (length out) 256) (notRead 20, w, out) (withRule (ruleOf file) (λ n. (notRead n, w, out)) f))
     (λ i x. same-from log file x w (suc (length log)) 0 noTrace out (omega arith) (omega arith) no-bytes i)

@@ -1,9 +1,4 @@
-pub mod LineMeans
-pub mod Advanced
-pub mod LineCall
 pub mod Lines
-pub mod Tallies
-pub mod TallyCall
 pub mod Repeated
 pub mod Prefixes
 pub mod LogMeans
@@ -11,6 +6,3 @@ pub mod WholeLog
 pub mod Verdicts
 pub mod LogCall
 pub mod Cut
-pub mod TallyLaws
-pub mod Failing
-pub mod Local

@@ -4,17 +4,18 @@ use Prim.Native.Nat.{ℕ, _+_}
 use mathlib.Core.Path.{_≡_, refl, ap, sym, _∙_}
 use mathlib.Core.List.{List, [], _∷_}
 use lib.ListN.{set}
-use Rattle.lines.specs.Line.{eventOf}
-use Rattle.trace.specs.Trace.{Trace, Answer, next, refused, apply}
+use Rattle.trace.specs.Trace.{Trace, Answer, next, refused, step}
 use Rattle.pairs.specs.Pairs.{workOf}
 use Rattle.rules.specs.declared.Rule.{Rule}
 use Rattle.rules.specs.Rules.{formulaOf}
 use Rattle.logic.specs.Verdict.{verdictByte, verdictOf}
 use Rattle.reading.specs.declared.LogRead.{LogRead}
+use Rattle.reading.specs.declared.Ending.{Ending}
 use Rattle.reading.specs.declared.Ending.the-variants.{Read, Refused}
-use Rattle.reading.specs.Reading.{byAnswer, ended, readFrom}
-use Rattle.reading.proofs.Lines.{by-answer, read-none, read-taken, read-refused}
+use Rattle.reading.specs.Reading.{byAnswer, ended, readFrom, readInto}
+use Rattle.reading.proofs.Lines.{read-none, read-taken, read-refused}
 use Rattle.monitor.specs.Log.{linesFrom}
+use Rattle.trace.proofs.Taken.{by-answer}
 
 module _ (file : List ℕ) (x : Rule) where
   pub from-none : (t : Trace) (w out : List ℕ) → linesFrom file x t [] w out ≡ (ended t Read, workOf (t .runs) w, out)
@@ -28,12 +29,12 @@ module _ (file : List ℕ) (x : Rule) where
         (λ u. linesFrom file x u ls w (set out (t .lines) (verdictByte (verdictOf u (formulaOf file x)))))
         (λ c. (ended t (Refused c (t .lines + 1)), workOf (t .runs) w, out))
 
-    pub from-taken : (u : Trace) → apply t (eventOf l) ≡ next u
+    pub from-taken : (u : Trace) → step (next t) l ≡ next u
         → linesFrom file x t (l ∷ ls) w out ≡ linesFrom file x u ls w (set out (t .lines) (verdictByte (verdictOf u (formulaOf file x))))
     unfolding linesFrom byAnswer
     from-taken u p = ap byLine p
 
-    pub from-refused : (c : ℕ) → apply t (eventOf l) ≡ refused c
+    pub from-refused : (c : ℕ) → step (next t) l ≡ refused c
         → linesFrom file x t (l ∷ ls) w out ≡ (ended t (Refused c (t .lines + 1)), workOf (t .runs) w, out)
     unfolding linesFrom byAnswer
     from-refused c p = ap byLine p
@@ -45,10 +46,13 @@ module _ (file : List ℕ) (x : Rule) where
   abbrev front : Whole → LogRead × List ℕ
   front z = (z .0, z .1)
 
+  abbrev into : List ℕ → Trace × Ending → LogRead × List ℕ
+  into w z = readInto z w
+
   pub from-read : (w : List ℕ) (ls : List (List ℕ)) (t : Trace) (out : List ℕ)
-      → _≡_ {A = LogRead × List ℕ} (linesFrom file x t ls w out .0, linesFrom file x t ls w out .1) (readFrom t ls w)
-  from-read w [] t out = ap front (from-none t w out) ∙ sym (read-none t w)
+      → _≡_ {A = LogRead × List ℕ} (linesFrom file x t ls w out .0, linesFrom file x t ls w out .1) (readInto (readFrom t ls) w)
+  from-read w [] t out = ap front (from-none t w out) ∙ ap (into w) (sym (read-none t))
   from-read w (l ∷ ls) t out =
       by-answer t l
-      (λ u p. ap front (from-taken t l ls w out u p) ∙ (from-read w ls u _ ∙ sym (read-taken t l ls w u p)))
-      (λ c p. ap front (from-refused t l ls w out c p) ∙ sym (read-refused t l ls w c p))
+      (λ u p. ap front (from-taken t l ls w out u p) ∙ (from-read w ls u _ ∙ ap (into w) (sym (read-taken t l ls u p))))
+      (λ c p. ap front (from-refused t l ls w out c p) ∙ ap (into w) (sym (read-refused t l ls c p)))

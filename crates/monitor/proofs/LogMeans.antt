@@ -11,19 +11,22 @@ use Rattle.lines.specs.Log.{linesOf}
 use Rattle.trace.specs.Trace.{Trace, next, refused, noTrace, steps, Accepted}
 use Rattle.trace.proofs.Grown.{no-bytes, flat, flat-lines}
 use Rattle.trace.proofs.Bounds.{accepted-bounded}
+use Rattle.pairs.specs.Grid.{workSize}
+use Rattle.pairs.specs.Pairs.{workOf}
 use Rattle.rules.specs.declared.Rule.{Rule}
 use Rattle.rules.specs.declared.RuleRead.the-variants as RuleRead
 use Rattle.rules.specs.Rules.{ruleOf, formulaOf}
 use Rattle.rules.proofs.Rules.{reads-rule}
 use Rattle.logic.specs.Verdict.{verdictByte, verdictOf}
+use Rattle.reading.specs.declared.Ending.{Ending}
 use Rattle.reading.specs.declared.Ending.the-variants.{Read, Refused}
 use Rattle.reading.specs.declared.LogRead.{LogRead}
-use Rattle.reading.specs.Reading.{readFrom}
+use Rattle.reading.specs.Reading.{readFrom, readAnswer}
 use Rattle.reading.proofs.Lines.{lines-accepted, taken-lines, lines-counted, Ends, through, at, ends}
 use Rattle.monitor.specs.Log.{linesFrom, logOf, LogTaken, LogStopped, LogMeans, ChecksLog}
 use Rattle.monitor.specs.Repeated.{Result}
-use Rattle.monitor.proofs.LineMeans.{verdict-says}
-use Rattle.monitor.proofs.LineCall.{with-taken}
+use Rattle.single.proofs.LineMeans.{verdict-says}
+use Rattle.single.proofs.LineCall.{with-taken}
 use Rattle.monitor.proofs.Lines.{from-read}
 use Rattle.monitor.proofs.Prefixes.{line-byte, bytes-rest, bytes-size}
 
@@ -35,46 +38,46 @@ same-refusal : (c d n m : ℕ) → Refused d m ≡ Refused c n → (d ≡ c) × 
 same-refusal c d n m e = ((cc), (cc))
 
 module _ (file log w out : List ℕ) (a : LogRead) (v o : List ℕ) (answer : _≡_ {A = Result} (a, v, o) (logOf file log w out)) where
-  module _ (x : Rule) (rule : ruleOf file ≡ RuleRead.Rule x) (long : 16384 ≤ length w) (room : 256 ≤ length out) where
+  module _ (x : Rule) (rule : ruleOf file ≡ RuleRead.Rule x) (long : workSize ≤ length w) (room : 256 ≤ length out) where
     is : _≡_ {A = Result} (a, v, o) (linesFrom file x noTrace (linesOf log) w out)
     unfolding logOf
-    is = answer ∙ simp (le-ltb (length w) 16384 long, le-ltb (length out) 256 room) (with-taken (ruleOf file) x _ _ rule)
+    is = answer ∙ simp (le-ltb (length w) workSize long, le-ltb (length out) 256 room) (with-taken (ruleOf file) x _ _ rule)
 
     abbrev z : Result
     z = linesFrom file x noTrace (linesOf log) w out
 
-    how-ends : Ends noTrace (linesOf log) w (readFrom noTrace (linesOf log) w)
-    how-ends = ends w (linesOf log) noTrace
+    abbrev got : Trace × Ending
+    got = readFrom noTrace (linesOf log)
 
-    abbrev got : LogRead × List ℕ
-    got = readFrom noTrace (linesOf log) w
+    how-ends : Ends noTrace (linesOf log) got
+    how-ends = ends (linesOf log) noTrace
 
-    answered : a ≡ got .0
+    answered : a ≡ readAnswer got
     answered = ap (λ (q : Result). q .0) is ∙ ap (λ (q : LogRead × List ℕ). q .0) (from-read file x w (linesOf log) noTrace out)
 
-    worked : v ≡ got .1
+    worked : v ≡ workOf (got .0 .runs) w
     worked = ap (λ (q : Result). q .1) is ∙ ap (λ (q : LogRead × List ℕ). q .1) (from-read file x w (linesOf log) noTrace out)
 
     whole-log : a .ending ≡ Read → LogTaken log w a v
     whole-log m = go how-ends
       where
-        go : Ends noTrace (linesOf log) w got → LogTaken log w a v
-        go (through u e s q) =
+        go : Ends noTrace (linesOf log) got → LogTaken log w a v
+        go (through u e s) =
             record {
               trace = u;
               accepted = subst (λ (l : List ℕ). Accepted l u) (flat-lines log) (lines-accepted (linesOf log) [] noTrace no-bytes u e);
-              state = ap (λ (b : LogRead). b .state) (answered ∙ s);
-              pairs = worked ∙ q;
+              state = ap (λ (b : LogRead). b .state) (answered ∙ ap readAnswer s);
+              pairs = worked ∙ ap (λ (k : Trace × Ending). workOf (k .0 .runs) w) s;
             }
-        go (at before l after u c d e r s q) = read-not-refused c (u .lines + 1) (sym m ∙ ap (λ (b : LogRead). b .ending) (answered ∙ s))
+        go (at before l after u c d e r s) = read-not-refused c (u .lines + 1) (sym m ∙ ap (λ (b : LogRead). b .ending) (answered ∙ ap readAnswer s))
 
     stopped-log : (c n : ℕ) → a .ending ≡ Refused c n → LogStopped log w c n a v
     stopped-log c n m = go how-ends
       where
-        go : Ends noTrace (linesOf log) w got → LogStopped log w c n a v
-        go (through u e s q) = read-not-refused c n (sym (ap (λ (b : LogRead). b .ending) (answered ∙ s)) ∙ m)
-        go (at before l after u b d e r s q) =
-            let f = same-refusal c b n (u .lines + 1) (sym (ap (λ (b : LogRead). b .ending) (answered ∙ s)) ∙ m) in
+        go : Ends noTrace (linesOf log) got → LogStopped log w c n a v
+        go (through u e s) = read-not-refused c n (sym (ap (λ (b : LogRead). b .ending) (answered ∙ ap readAnswer s)) ∙ m)
+        go (at before l after u b d e r s) =
+            let f = same-refusal c b n (u .lines + 1) (sym (ap (λ (b : LogRead). b .ending) (answered ∙ ap readAnswer s)) ∙ m) in
             let g : u .lines ≡ 0 + length before = lines-counted before noTrace u e in
             let b : linesOf (flat before) ≡ before = taken-lines before noTrace u e in
             record {
@@ -86,8 +89,8 @@ module _ (file log w out : List ℕ) (a : LogRead) (v o : List ℕ) (answer : _�
               lines = d ∙ ap (λ (k : List (List ℕ)). k ++ (l ∷ after)) (sym b);
               number = omega (arith, f .1, g, ap length b);
               why = r ∙ ap refused (f .0);
-              state = ap (λ (b : LogRead). b .state) (answered ∙ s);
-              pairs = worked ∙ q;
+              state = ap (λ (b : LogRead). b .state) (answered ∙ ap readAnswer s);
+              pairs = worked ∙ ap (λ (k : Trace × Ending). workOf (k .0 .runs) w) s;
             }
 
     first-byte : (k : ℕ) (u : Trace) → k < length (linesOf log) → steps (next noTrace) (take (suc k) (linesOf log)) ≡ next u → k < length out

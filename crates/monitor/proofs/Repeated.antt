@@ -13,6 +13,7 @@ use Rattle.trace.specs.declared.Record.{Record}
 use Rattle.trace.specs.Trace.{Trace, noTrace, Accepted}
 use Rattle.trace.specs.Record.{recordOf}
 use Rattle.trace.proofs.Grown.{taken-grows, no-bytes}
+use Rattle.pairs.specs.Grid.{workSize}
 use Rattle.pairs.specs.Pairs.{workOf}
 use Rattle.pairs.specs.Start.{startOf}
 use Rattle.rules.specs.declared.Rule.{Rule}
@@ -21,17 +22,17 @@ use Rattle.rules.specs.Rules.{ruleOf, formulaOf}
 use Rattle.rules.proofs.Rules.{reads-rule}
 use Rattle.logic.specs.declared.Verdict.{Verdict}
 use Rattle.logic.specs.Verdict.{verdictByte, verdictOf}
-use Rattle.monitor.specs.declared.Outcome.the-variants as Outcome
-use Rattle.monitor.specs.declared.Checked.{Checked}
+use Rattle.single.specs.declared.Outcome.the-variants as Outcome
+use Rattle.single.specs.declared.Checked.{Checked}
 use Rattle.reading.specs.declared.Ending.the-variants.{Refused}
 use Rattle.reading.specs.Left.{Left}
-use Rattle.monitor.specs.Line.{stateOf, lineOf, advanceOf, ChecksLine}
+use Rattle.single.specs.Line.{stateOf, lineOf, advanceOf, ChecksLine}
 use Rattle.monitor.specs.Log.{linesFrom, logOf}
 use Rattle.monitor.specs.Repeated.{Result, endedAt, Answered, Repeats}
 use Rattle.reading.proofs.Settled.{work-long}
-use Rattle.monitor.proofs.LineMeans.{judged-same, judged-taken, by-line}
+use Rattle.single.proofs.LineMeans.{judged-same, judged-taken, by-line}
 use Rattle.reading.proofs.Standing.{pairs-long, one-trace}
-use Rattle.monitor.proofs.LineCall.{with-taken, standing-of, line-known}
+use Rattle.single.proofs.LineCall.{with-taken, standing-of, line-known}
 use Rattle.reading.proofs.Settled.{work-over}
 use Rattle.monitor.proofs.Lines.{from-none, from-taken, from-refused}
 
@@ -41,9 +42,9 @@ left-by log t a w = record { accepted = a; encoded = refl; pairs = sym (work-ove
 
 module _ (file : List ℕ) (x : Rule) (rule : ruleOf file ≡ RuleRead.Rule x) (w : List ℕ) where
   -- with the rule and a long work area, the call is the inner step
-  line-is-step : (t : Trace) (v l : List ℕ) → 16384 ≤ length v → (r : Record) → lineOf file r v l (some t) ≡ advanceOf file x t v l
+  line-is-step : (t : Trace) (v l : List ℕ) → workSize ≤ length v → (r : Record) → lineOf file r v l (some t) ≡ advanceOf file x t v l
   unfolding lineOf stateOf
-  line-is-step t v l long r = simp (le-ltb (length v) 16384 long) (with-taken (ruleOf file) x _ _ rule)
+  line-is-step t v l long r = simp (le-ltb (length v) workSize long) (with-taken (ruleOf file) x _ _ rule)
 
   called : (log : List ℕ) (t : Trace) → Accepted log t → (l : List ℕ) (c : Checked) (v : List ℕ) → ChecksLine file (recordOf t) (workOf (t .runs) w) l c v
       → _≡_ {A = Checked × List ℕ} (c, v) (advanceOf file x t (workOf (t .runs) w) l)
@@ -95,10 +96,10 @@ module _ (file : List ℕ) (x : Rule) (rule : ruleOf file ≡ RuleRead.Rule x) (
 
 -- THE LAW: for a rule that is taken and buffers that are long enough, the whole-log call gives what the single-line call gives on
 -- one line after another, from what starting a record answers on.
-pub log-is-repeated-line : (file log w out : List ℕ) (x : Rule) → ruleOf file ≡ RuleRead.Rule x → 16384 ≤ length w → 256 ≤ length out
+pub log-is-repeated-line : (file log w out : List ℕ) (x : Rule) → ruleOf file ≡ RuleRead.Rule x → workSize ≤ length w → 256 ≤ length out
     → Repeats file (startOf w .0 .state) (startOf w .1) (linesOf log) out (logOf file log w out)
 unfolding logOf startOf
 log-is-repeated-line file log w out x rule long room =
-    simp (le-ltb (length w) 16384 long, le-ltb (length out) 256 room)
+    simp (le-ltb (length w) workSize long, le-ltb (length out) 256 room)
     (subst (Repeats file (recordOf noTrace) (workOf [] w) (linesOf log) out) (sym (with-taken (ruleOf file) x _ _ rule))
     (repeats-from file x rule w (linesOf log) [] noTrace no-bytes out))

@@ -11,29 +11,30 @@ use borrow.Author.Tests.{lt-ltb, le-ltb}
 use Rattle.lists.proofs.Cases.{either-lt, either-bool, no-both}
 use Rattle.lines.specs.Log.{linesOf}
 use Rattle.trace.specs.Trace.{Trace, next, noTrace, read, steps, Accepted}
+use Rattle.pairs.specs.Grid.{workSize}
 use Rattle.rules.specs.declared.Rule.{Rule}
 use Rattle.rules.specs.declared.RuleRead.{RuleRead}
 use Rattle.rules.specs.declared.RuleRead.the-variants as RuleRead
 use Rattle.rules.specs.Rules.{ruleOf}
-use Rattle.monitor.specs.Line.{withRule}
+use Rattle.single.specs.Line.{withRule}
 use Rattle.monitor.specs.Log.{notRead, linesFrom, logOf}
 use Rattle.monitor.specs.Repeated.{Result}
 use Rattle.monitor.proofs.LogMeans.{log-means}
 
 module _ (file w out : List ℕ) where
   -- no log is read: nothing is touched
-  not-long : (log : List ℕ) → ltb (length w) 16384 || ltb (length out) 256 ≡ true → logOf file log w out .2 ≡ out
+  not-long : (log : List ℕ) → ltb (length w) workSize || ltb (length out) 256 ≡ true → logOf file log w out .2 ≡ out
   unfolding logOf
   not-long log s = simp s
 
-  not-ruled : (log : List ℕ) (n : ℕ) → ltb (length w) 16384 || ltb (length out) 256 ≡ false → ruleOf file ≡ RuleRead.Refused n → logOf file log w out .2 ≡ out
+  not-ruled : (log : List ℕ) (n : ℕ) → ltb (length w) workSize || ltb (length out) 256 ≡ false → ruleOf file ≡ RuleRead.Refused n → logOf file log w out .2 ≡ out
   unfolding logOf withRule
   not-ruled log n s e = simp s (ap (λ (z : RuleRead). withRule {A = Result} z (λ m. (notRead m, w, out)) (λ x. linesFrom file x noTrace (linesOf log) w out) .2) e)
 
-  long : ltb (length w) 16384 || ltb (length out) 256 ≡ false → 16384 ≤ length w
-  long s = either-lt (length w) 16384 (λ h. let f : true ≡ false = simp (lt-ltb _ _ h) at s in no-both f) (λ h. h)
+  long : ltb (length w) workSize || ltb (length out) 256 ≡ false → workSize ≤ length w
+  long s = either-lt (length w) workSize (λ h. let f : true ≡ false = simp (lt-ltb _ _ h) at s in no-both f) (λ h. h)
 
-  room : ltb (length w) 16384 || ltb (length out) 256 ≡ false → 256 ≤ length out
+  room : ltb (length w) workSize || ltb (length out) 256 ≡ false → 256 ≤ length out
   room s = either-lt (length out) 256 (λ h. let f : true ≡ false = simp (lt-ltb _ _ h, le-ltb _ _ (long s)) at s in no-both f) (λ h. h)
 
   module _ (log start : List ℕ) (k : ℕ) (first : linesOf start ≡ take (suc k) (linesOf log)) (within : k < length (linesOf log)) (u : Trace) (a : Accepted start u) where
@@ -51,11 +52,11 @@ module _ (file w out : List ℕ) where
     -- THE LAW: wherever the first k + 1 lines are taken, the byte of line k + 1 is that of the log of these lines alone
     pub verdicts-of-prefixes : getD (logOf file log w out .2) k 0 ≡ getD (logOf file start w out .2) k 0
     verdicts-of-prefixes =
-        either-bool (ltb (length w) 16384 || ltb (length out) 256)
+        either-bool (ltb (length w) workSize || ltb (length out) 256)
         (λ s. ap (λ (z : List ℕ). getD z k 0) (not-long log s ∙ sym (not-long start s)))
         (λ s. by-rule (ruleOf file) refl s)
       where
-        by-rule : (q : RuleRead) → ruleOf file ≡ q → ltb (length w) 16384 || ltb (length out) 256 ≡ false → getD (logOf file log w out .2) k 0 ≡ getD (logOf file start w out .2) k 0
+        by-rule : (q : RuleRead) → ruleOf file ≡ q → ltb (length w) workSize || ltb (length out) 256 ≡ false → getD (logOf file log w out .2) k 0 ≡ getD (logOf file start w out .2) k 0
         by-rule (RuleRead.Refused n) e s = ap (λ (z : List ℕ). getD z k 0) (not-ruled log n s e ∙ sym (not-ruled start n s e))
         by-rule (RuleRead.Rule x) e s =
             let b = log-means file log w out _ _ _ refl x e (long s) (room s) .verdicts k u within leaves .byte in

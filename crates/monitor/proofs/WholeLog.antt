@@ -14,20 +14,21 @@ use Rattle.trace.specs.declared.Record.{Record}
 use Rattle.trace.specs.Trace.{Trace, next, noTrace, steps, Accepted}
 use Rattle.trace.specs.Record.{recordOf, Valid}
 use Rattle.trace.proofs.Bounds.{accepted-bounded}
-use Rattle.trace.proofs.Grown.{no-bytes, flat, step-is}
+use Rattle.trace.proofs.Grown.{no-bytes, flat}
 use Rattle.rules.specs.declared.Rule.{Rule}
 use Rattle.logic.specs.declared.Verdict.{Verdict}
 use Rattle.logic.specs.Verdict.{verdictByte}
 use Rattle.timeline.specs.declared.Timeline.{Timeline}
 use Rattle.timeline.specs.AllLines.{verdictAt, FitsRuns, JudgesAll}
 use Rattle.reading.specs.declared.LogRead.{LogRead}
-use Rattle.reading.specs.Reading.{readFrom}
-use Rattle.reading.proofs.Lines.{by-answer, after-line, no-line, lines-accepted, taken-lines, lines-counted, Ends, through, at, ends}
+use Rattle.reading.specs.Reading.{readFrom, readAnswer, readInto}
+use Rattle.reading.proofs.Lines.{after-line, no-line, lines-accepted, taken-lines, lines-counted, Ends, through, at, ends}
 use Rattle.monitor.specs.Log.{linesFrom}
 use Rattle.monitor.specs.Written.{Written}
 use Rattle.monitor.specs.Repeated.{Result}
 use Rattle.monitor.proofs.Lines.{from-read}
 use Rattle.monitor.proofs.Prefixes.{line-byte, bytes-rest, bytes-size}
+use Rattle.trace.proofs.Taken.{by-answer}
 
 -- the first of lines that are taken are taken
 front-taken : (k : ℕ) (ls : List (List ℕ)) (t u : Trace) → steps (next t) ls ≡ next u → (v : Trace) × (steps (next t) (take k ls) ≡ next v)
@@ -35,7 +36,7 @@ front-taken zero ls t u e = (t, refl)
 front-taken (suc k) [] t u e = (t, refl)
 front-taken (suc k) (l ∷ ls) t u e =
     by-answer t l
-    (λ v p. let q = front-taken k ls v u (after-line t v u l ls p e) in (q .0, ap (λ a. steps a (take k ls)) (step-is t l ∙ p) ∙ q .1))
+    (λ v p. let q = front-taken k ls v u (after-line t v u l ls p e) in (q .0, ap (λ a. steps a (take k ls)) p ∙ q .1))
     (λ c p. no-line t u c l ls p e)
 
 -- ── the lines that are taken ──
@@ -47,18 +48,18 @@ record TakenLines (ls : List (List ℕ)) (a : LogRead) : Type 0 where
   pub leave : steps (next noTrace) before ≡ next trace
   pub state : a .state ≡ recordOf trace
 
-module _ (log w : List ℕ) (a : LogRead) (v : List ℕ) (read : _≡_ {A = LogRead × List ℕ} (a, v) (readFrom noTrace (linesOf log) w)) where
+module _ (log w : List ℕ) (a : LogRead) (v : List ℕ) (read : _≡_ {A = LogRead × List ℕ} (a, v) (readInto (readFrom noTrace (linesOf log)) w)) where
   taken-first : TakenLines (linesOf log) a
-  taken-first = go (ends w (linesOf log) noTrace)
+  taken-first = go (ends (linesOf log) noTrace)
     where
-      got : a ≡ readFrom noTrace (linesOf log) w .0
+      got : a ≡ readAnswer (readFrom noTrace (linesOf log))
       got = ap (λ (z : LogRead × List ℕ). z .0) read
 
-      go : Ends noTrace (linesOf log) w (readFrom noTrace (linesOf log) w) → TakenLines (linesOf log) a
-      go (through u e s q) =
-          record { before = linesOf log; rest = []; trace = u; lines = sym (append-nil (linesOf log)); leave = e; state = ap (λ (b : LogRead). b .state) (got ∙ s) }
-      go (at before l after u c d e r s q) =
-          record { before = before; rest = l ∷ after; trace = u; lines = d; leave = e; state = ap (λ (b : LogRead). b .state) (got ∙ s) }
+      go : Ends noTrace (linesOf log) (readFrom noTrace (linesOf log)) → TakenLines (linesOf log) a
+      go (through u e s) =
+          record { before = linesOf log; rest = []; trace = u; lines = sym (append-nil (linesOf log)); leave = e; state = ap (λ (b : LogRead). b .state) (got ∙ ap readAnswer s) }
+      go (at before l after u c d e r s) =
+          record { before = before; rest = l ∷ after; trace = u; lines = d; leave = e; state = ap (λ (b : LogRead). b .state) (got ∙ ap readAnswer s) }
 
   abbrev u : Trace
   u = taken-first .trace

@@ -6,10 +6,10 @@ use mathlib.Core.Bool.{cond, _||_}
 use mathlib.Core.List.{List, [], _∷_, _++_}
 use lib.Dec.{ltb}
 use lib.ListN.{length, getD, set, take}
-use Rattle.lines.specs.Line.{eventOf}
 use Rattle.lines.specs.Log.{linesOf}
-use Rattle.trace.specs.Trace.{Trace, next, refused, noTrace, apply, steps, Accepted}
+use Rattle.trace.specs.Trace.{Trace, next, refused, noTrace, steps, Accepted, step}
 use Rattle.trace.specs.Record.{recordOf}
+use Rattle.pairs.specs.Grid.{workSize}
 use Rattle.pairs.specs.Pairs.{workOf}
 use Rattle.rules.specs.declared.Rule.{Rule}
 use Rattle.rules.specs.declared.RuleRead.the-variants as RuleRead
@@ -18,7 +18,7 @@ use Rattle.logic.specs.Verdict.{verdictByte, verdictOf, Says}
 use Rattle.reading.specs.declared.Ending.the-variants.{Read, Refused}
 use Rattle.reading.specs.declared.LogRead.{LogRead}
 use Rattle.reading.specs.Reading.{byAnswer, ended}
-use Rattle.monitor.specs.Line.{withRule}
+use Rattle.single.specs.Line.{withRule}
 
 -- The lines that are left, after those that t stands for: the answer, the work area and the verdict buffer. "The whole-log call
 -- adds the line number, stops there, and keeps the record and work area of the lines before it, their verdict bytes, and the rest
@@ -26,7 +26,7 @@ use Rattle.monitor.specs.Line.{withRule}
 unfoldable pub linesFrom : List ℕ → Rule → Trace → List (List ℕ) → List ℕ → List ℕ → LogRead × List ℕ × List ℕ
 linesFrom file x t [] w out = (ended t Read, workOf (t .runs) w, out)
 linesFrom file x t (l ∷ ls) w out =
-    byAnswer (apply t (eventOf l))
+    byAnswer (step (next t) l)
     (λ u. linesFrom file x u ls w (set out (t .lines) (verdictByte (verdictOf u (formulaOf file x)))))
     (λ c. (ended t (Refused c (t .lines + 1)), workOf (t .runs) w, out))
 
@@ -37,7 +37,7 @@ notRead n = ended noTrace (Refused n 0)
 -- 20 for either buffer, then the rule, then the lines
 unfoldable pub logOf : List ℕ → List ℕ → List ℕ → List ℕ → LogRead × List ℕ × List ℕ
 logOf file log w out =
-    cond (ltb (length w) 16384 || ltb (length out) 256) (notRead 20, w, out)
+    cond (ltb (length w) workSize || ltb (length out) 256) (notRead 20, w, out)
     (withRule (ruleOf file) (λ n. (notRead n, w, out)) (λ x. linesFrom file x noTrace (linesOf log) w out))
 
 -- ── what the answer says of the log ──
@@ -57,7 +57,7 @@ pub record LogStopped (log w : List ℕ) (c n : ℕ) (a : LogRead) (w′ : List 
   pub accepted : Accepted before trace
   pub lines : linesOf log ≡ linesOf before ++ (last ∷ after)
   pub number : n ≡ length (linesOf before) + 1
-  pub why : apply trace (eventOf last) ≡ refused c
+  pub why : step (next trace) last ≡ refused c
   pub state : a .state ≡ recordOf trace
   pub pairs : w′ ≡ workOf (trace .runs) w
 
@@ -78,4 +78,4 @@ pub record LogMeans (file : List ℕ) (x : Rule) (log w out : List ℕ) (a : Log
 -- the contract, for every input; and what the answer means where the rule is taken and the buffers are long enough
 pub record ChecksLog (file log w out : List ℕ) (a : LogRead) (w′ out′ : List ℕ) : Type 0 where
   pub answer : _≡_ {A = LogRead × List ℕ × List ℕ} (a, w′, out′) (logOf file log w out)
-  pub meaning : (x : Rule) → ruleOf file ≡ RuleRead.Rule x → 16384 ≤ length w → 256 ≤ length out → LogMeans file x log w out a w′ out′
+  pub meaning : (x : Rule) → ruleOf file ≡ RuleRead.Rule x → workSize ≤ length w → 256 ≤ length out → LogMeans file x log w out a w′ out′

@@ -7,12 +7,12 @@ use lib.ListN.{set}
 use Rattle.trace.specs.declared.Record.{Record}
 use Rattle.logic.specs.declared.Verdict.{Verdict}
 use Rattle.logic.specs.Verdict.{verdictByte}
-use Rattle.monitor.specs.declared.Outcome.the-variants as Outcome
-use Rattle.monitor.specs.declared.Checked.{Checked}
+use Rattle.single.specs.declared.Outcome.the-variants as Outcome
+use Rattle.single.specs.declared.Checked.{Checked}
 use Rattle.reading.specs.declared.Ending.{Ending}
 use Rattle.reading.specs.declared.Ending.the-variants.{Read, Refused}
 use Rattle.reading.specs.declared.LogRead.{LogRead}
-use Rattle.monitor.specs.Line.{judged, ChecksLine}
+use Rattle.single.specs.Line.{judged, ChecksLine}
 
 abbrev pub Result : Type 0
 Result = LogRead × List ℕ × List ℕ

@@ -9,7 +9,7 @@ use lib.Seq.{drop-cons, set-at}
 use Rattle.pairs.specs.Grid.{grid}
 use Rattle.pairs.specs.Pairs.{pairByte, workOf}
 use Rattle.pairs.proofs.Grid.{is-grid}
-use Rattle.pairs.proofs.Pairs.{pair-none}
+use Rattle.pairs.proofs.Pairs.{pair-late}
 
 pub clear-next : (w w₀ : List ℕ) (k : ℕ) → k < length w₀ → w ≡ replicate k 0 ++ drop k w₀ → set w k 0 ≡ replicate (k + 1) 0 ++ drop (k + 1) w₀
 clear-next w w₀ k h e =
@@ -23,5 +23,5 @@ pub clear-all : (w w₀ : List ℕ) (k : ℕ) → k ≡ 16384 → w ≡ replicat
 clear-all w w₀ k e h =
     let zeros : replicate k 0 ≡ grid (pairByte []) =
     is-grid (pairByte []) (replicate k 0) (length-replicate k 0 ∙ e)
-    (λ j l. getD-replicate k j 0 0 (omega arith) ∙ sym (pair-none (j / 128) (j % 128))) in
+    (λ j l. getD-replicate k j 0 0 (omega arith) ∙ sym (pair-late [] (j / 128) (j % 128) (omega arith))) in
     h ∙ (λ i. zeros i ++ drop (e i) w₀)

@@ -1,9 +1,10 @@
 pub mod Grid
-pub mod Cross
 pub mod Pairs
 pub mod Clear
+pub mod Stores
+pub mod Refreshed
+pub mod Filled
 pub mod Match
 pub mod Starts
-pub mod Refreshed
 pub mod Word
 pub mod Accepted

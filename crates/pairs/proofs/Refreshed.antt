@@ -1,36 +1,45 @@
--- After an accepted line the refreshed bytes are the new record's: only the run of the line changes, so only its row and column do.
-use Prim.Native.Nat.{ℕ, zero, suc, _+_, _*_, _<_, _≤_}
+-- After an accepted line the refreshed bytes are those of the new runs: only the run of the line changes, so only its bytes do.
+use Prim.Native.Nat.{ℕ, zero, suc, _+_, _-_, _<_, _≤_}
 use mathlib.Core.Path.{_≡_, refl, ap, sym, _∙_}
-use mathlib.Core.Bool.{true, _&&_, cond}
+use mathlib.Core.Bool.{_&&_, cond}
 use mathlib.Core.List.{List, [], _∷_, _++_}
 use native.Mathlib.Omega.{arith}
-use lib.ListN.{length, getD, set, drop, length-append, List·getD-append, List·getD-eq-default}
+use lib.ListN.{length, getD, drop, length-append, List·getD-append, List·getD-eq-default}
 use lib.Dec.{eqb, ltb}
-use lib.Seq.{drop-set-lt}
-use borrow.Author.Tests.{lt-ltb, le-ltb}
+use borrow.Author.Tests.{lt-ltb, le-ltb, ltb-false}
 use Rattle.lists.proofs.Cases.{either-lt, either-bool}
-use Rattle.labels.specs.declared.Label.{Label}
-use Rattle.trace.specs.declared.Run.{Run}
-use Rattle.trace.specs.Trace.{Trace, next, noRun, begun?, placeOf, close, begin, end, apply, runOf}
-use Rattle.pairs.specs.Grid.{cross}
-use Rattle.trace.specs.declared.RunTable.{RunTable}
-use Rattle.trace.specs.Steps.{held}
-use Rattle.pairs.specs.Pairs.{pairSet, pairByte, workOf}
-use Rattle.pairs.specs.Refresh.{Beside, Refreshes}
-use Rattle.labels.specs.Label.{labelOf}
 use Rattle.lines.specs.Event.{Event}
+use Rattle.trace.specs.declared.Run.{Run}
+use Rattle.trace.specs.declared.RunTable.{RunTable}
+use Rattle.trace.specs.declared.Record.{Record}
+use Rattle.trace.specs.Trace.{Trace, next, noRun, placeOf, close, begin, end, apply, runOf}
+use Rattle.trace.specs.Steps.{held}
 use Rattle.trace.proofs.Taken.{event-taken}
 use Rattle.trace.proofs.Closed.{RunOf, begun-run, close-long}
-use Rattle.pairs.proofs.Cross.{cross-right}
+use Rattle.pairs.specs.Grid.{workSize}
+use Rattle.lists.specs.Limits.{maxRuns}
+use Rattle.pairs.specs.Pairs.{pairSet, pairByte, workOf}
+use Rattle.pairs.specs.Code.{downColumn, alongRow, alongRows, refreshCells}
+use Rattle.pairs.specs.Refresh.{Beside, Refreshes}
+use Rattle.pairs.proofs.Pairs.{length-held, pair-zero}
+use Rattle.pairs.proofs.Stores.{rows-one, cells-right, cells-rest}
 
 -- ── two lists of runs that differ at one place at most ──
--- the row and the column of that place bring the bytes up to date
-pub refreshed : (z : ℕ) (rs qs : List Run) (w : List ℕ) → z < 128 → Beside z rs qs → cross (pairByte qs) z 128 (workOf rs w) ≡ workOf qs w
-unfolding pairByte
-refreshed z rs qs w h s = cross-right (pairByte qs) (pairByte rs) z w h same
-  where
-    same : (a b : ℕ) → (a ≡ z → ⊥) → (b ≡ z → ⊥) → pairByte rs a b ≡ pairByte qs a b
-    same a b p q = λ i. cond (ltb a b && s .has b q i) (pairSet (s .run a p i) (s .run b q i)) 0
+-- the bytes of that place bring the rest up to date
+module _ (z : ℕ) (rs qs : List Run) (s : Beside z rs qs) (in-range : z < length qs) (few : length qs ≤ maxRuns) where
+  beside : (a b : ℕ) → (a ≡ z → ⊥) → (b ≡ z → ⊥) → pairByte rs a b ≡ pairByte qs a b
+  unfolding pairByte
+  beside a b p q = λ i. cond (ltb a b && s .has b q i) (pairSet (s .run a p i) (s .run b q i)) 0
+
+  outside : (a b : ℕ) → (a < b → length qs ≤ b) → pairByte rs a b ≡ pairByte qs a b
+  outside a b h =
+      pair-zero rs a b (λ k.
+      let j : length qs ≤ b = h k in
+      ltb-false _ _ (s .has b (λ e. omega arith) ∙ le-ltb _ _ j))
+      ∙ sym (pair-zero qs a b h)
+
+  refreshed : (w : List ℕ) → refreshCells (pairByte qs) (length qs) z (workOf rs w) ≡ workOf qs w
+  refreshed = cells-right (pairByte qs) (pairByte rs) (length qs) z in-range few outside beside
 
 -- ── a begin line: the run is new ──
 added : (rs : List Run) (r : Run) → Beside (length rs) rs (rs ++ (r ∷ []))
@@ -51,11 +60,6 @@ added rs r = record { has = has; run = run }
         (λ h. sym (List·getD-append rs (r ∷ []) noRun k h))
         (λ h. List·getD-eq-default rs noRun h ∙ sym (List·getD-eq-default (rs ++ (r ∷ [])) noRun (omega (arith, size))))
 
-pub refreshed-begin : (t : Trace) (i : ℕ) (x : Label) (w : List ℕ) → length (t .runs) < 128
-    → cross (pairByte (begin t i x .runs)) (length (t .runs)) 128 (workOf (t .runs) w) ≡ workOf (begin t i x .runs) w
-unfolding begin
-refreshed-begin t i x w h = refreshed (length (t .runs)) (t .runs) _ w h (added (t .runs) _)
-
 -- ── an end line: the run of its id is shut ──
 module _ (i n : ℕ) where
   getD-close : (rs : List Run) (k : ℕ) → (k ≡ placeOf i rs → ⊥) → getD rs k noRun ≡ getD (close i n rs) k noRun
@@ -73,33 +77,40 @@ module _ (i n : ℕ) where
   shut-one : (rs : List Run) → Beside (placeOf i rs) rs (close i n rs)
   shut-one rs = record { has = λ k _. ap (λ (m : ℕ). ltb k m) (sym (close-long i n rs)); run = getD-close rs }
 
-pub refreshed-end : (t : Trace) (i : ℕ) (w : List ℕ) → begun? i (t .runs) ≡ true → length (t .runs) ≤ 128
-    → cross (pairByte (end t i .runs)) (placeOf i (t .runs)) 128 (workOf (t .runs) w) ≡ workOf (end t i .runs) w
-unfolding end
-refreshed-end t i w b h =
-    let r : RunOf i (t .runs) = begun-run i (t .runs) b in
-    refreshed (placeOf i (t .runs)) (t .runs) _ w (omega (arith, r .place, r .low)) (shut-one i (t .lines + 1) (t .runs))
+-- a line changes no run but its own
+pub line-beside : (t u : Trace) (e : Event) → apply t e ≡ next u → Beside (runOf t e) (t .runs) (u .runs)
+unfolding begin end
+line-beside t u =
+    event-taken (λ e. Beside (runOf t e) (t .runs) (u .runs)) t u
+    (λ i l b. rw (b .is) (added (t .runs) _))
+    (λ i b. rw (b .is) (shut-one i (t .lines + 1) (t .runs)))
 
--- THE LAW: after each accepted line, the bytes refreshed for the line's run are those of the new runs
-pub refreshed-line : (t u : Trace) (w : List ℕ) → length (t .runs) ≤ 128 → (e : Event) → apply t e ≡ next u
-    → cross (pairByte (u .runs)) (runOf t e) 128 (workOf (t .runs) w) ≡ workOf (u .runs) w
-refreshed-line t u w few =
-    event-taken (λ e. cross (pairByte (u .runs)) (runOf t e) 128 (workOf (t .runs) w) ≡ workOf (u .runs) w) t u
-    (λ i l b. rw (b .is) (refreshed-begin t i (labelOf l) w (b .room)))
-    (λ i b. rw (b .is) (refreshed-end t i w (b .old) few))
+-- and its own is one of the new runs
+pub line-run : (t u : Trace) (e : Event) → apply t e ≡ next u → runOf t e < length (u .runs)
+unfolding begin end
+line-run t u =
+    event-taken (λ e. runOf t e < length (u .runs)) t u
+    (λ i l b. rw (b .is) (simp length-append (omega arith)))
+    (λ i b.
+    let r : RunOf i (t .runs) = begun-run i (t .runs) (b .old) in
+    rw (b .is) (omega (arith, r .place, r .low, close-long i (t .lines + 1) (t .runs))))
 
 -- ── what a refresh promises ──
-cross-rest : (f : ℕ → ℕ → ℕ) (z n : ℕ) (w : List ℕ) → z < 128 → n ≤ 128 → drop 16384 (cross f z n w) ≡ drop 16384 w
-unfolding cross
-cross-rest f z zero w h k = refl
-cross-rest f z (suc n) w h k =
-    drop-set-lt 16384 (set (cross f z n w) (128 * n + z) (f n z)) (128 * z + n) (f z n) (omega arith)
-    ∙ (drop-set-lt 16384 (cross f z n w) (128 * n + z) (f n z) (omega arith) ∙ cross-rest f z n w h (omega arith))
-
-pub refreshes : (t : RunTable) (z : ℕ) (w v : List ℕ) → z < 128 → v ≡ cross (pairByte (held t)) z 128 w → Refreshes t z w v
-refreshes t z w v h e =
+pub refreshes : (t : RunTable) (z : ℕ) (w v₁ v : List ℕ) → length (t .list) ≡ maxRuns → z < t .count → t .count ≤ maxRuns
+    → v₁ ≡ downColumn (pairByte (held t)) z z w → v ≡ alongRows (pairByte (held t)) (t .count) z (z + 1 - z) v₁ → Refreshes t z w v
+refreshes t z w v₁ v full h few d e =
+    let size : length (held t) ≡ t .count = length-held t full few in
+    let a : v ≡ refreshCells (pairByte (held t)) (t .count) z w = e ∙ (rows-one (pairByte (held t)) (t .count) z v₁ ∙ ap (alongRow (pairByte (held t)) z (t .count - (z + 1))) d) in
     record {
-      answer = e;
-      meaning = λ rs u b f. e ∙ (ap (cross (pairByte (held t)) z 128) f ∙ refreshed z rs (held t) u h b);
-      rest = ap (drop 16384) e ∙ cross-rest (pairByte (held t)) z 128 w h (omega arith);
+      answer = a;
+      meaning = λ rs u b f.
+          a ∙ ((λ i. refreshCells (pairByte (held t)) (sym size i) z (f i)) ∙ refreshed z rs (held t) b (omega arith) (omega arith) u);
+      rest = ap (drop workSize) a ∙ cells-rest (pairByte (held t)) (t .count) z w h few;
     }
+
+-- THE LAW: after each accepted line, the bytes refreshed for the line's run are those of the new runs
+pub refreshed-work : (t u : Trace) (e : Event) → apply t e ≡ next u → (r : Record) → held (r .runs) ≡ u .runs → (z : ℕ) → z ≡ runOf t e
+    → (w v : List ℕ) → w ≡ workOf (t .runs) w → Refreshes (r .runs) z w v → v ≡ workOf (u .runs) w
+refreshed-work t u e p r h z k w v pairs f =
+    let b : Beside z (t .runs) (held (r .runs)) = rw (k, h) (line-beside t u e p) in
+    f .meaning (t .runs) w b pairs ∙ ap (λ (rs : List Run). workOf rs w) h

@@ -8,35 +8,35 @@ use borrow.Author.Tests.{eq-eqb, ne-eqb}
 use Rattle.lists.proofs.Cases.{either-eq, either-lt}
 use Rattle.lists.proofs.Lists.{append-nil}
 use Rattle.trace.specs.declared.Run.{Run}
-use Rattle.trace.specs.Trace.{start, finish}
+use Rattle.trace.specs.Trace.{beginLine, endLine}
 use Rattle.pairs.specs.Pairs.{pairSet}
 use Rattle.pairs.specs.Word.{Letter, X, Y, letterAt, wordOf, nameOf, InLog}
 use Rattle.pairs.proofs.Pairs.{set-1, set-2, set-3, set-4, set-5, set-6, set-7}
 
 module _ (x y : Run) where
   -- ── the letter of a line ──
-  begin-x : letterAt (start x) x y ≡ X ∷ []
+  begin-x : letterAt (beginLine x) x y ≡ X ∷ []
   unfolding letterAt
-  begin-x = simp (eq-eqb (start x) (start x) refl)
+  begin-x = simp (eq-eqb (beginLine x) (beginLine x) refl)
 
-  end-x : letterAt (finish x) x y ≡ X ∷ []
+  end-x : letterAt (endLine x) x y ≡ X ∷ []
   unfolding letterAt
   end-x =
-      either-eq (finish x) (start x)
+      either-eq (endLine x) (beginLine x)
       (λ e. simp (eq-eqb _ _ e))
-      (λ e. simp (ne-eqb _ _ e, eq-eqb (finish x) (finish x) refl))
+      (λ e. simp (ne-eqb _ _ e, eq-eqb (endLine x) (endLine x) refl))
 
-  begin-y : (start y ≢ start x) × (start y ≢ finish x) → letterAt (start y) x y ≡ Y ∷ []
+  begin-y : (beginLine y ≢ beginLine x) × (beginLine y ≢ endLine x) → letterAt (beginLine y) x y ≡ Y ∷ []
   unfolding letterAt
-  begin-y n = simp (ne-eqb _ _ (n .0), ne-eqb _ _ (n .1), eq-eqb (start y) (start y) refl)
+  begin-y n = simp (ne-eqb _ _ (n .0), ne-eqb _ _ (n .1), eq-eqb (beginLine y) (beginLine y) refl)
 
-  end-y : (finish y ≢ start x) × (finish y ≢ finish x) × (finish y ≢ start y) → letterAt (finish y) x y ≡ Y ∷ []
+  end-y : (endLine y ≢ beginLine x) × (endLine y ≢ endLine x) × (endLine y ≢ beginLine y) → letterAt (endLine y) x y ≡ Y ∷ []
   unfolding letterAt
-  end-y n = simp (ne-eqb _ _ (n .0), ne-eqb _ _ (n .1), ne-eqb _ _ (n .2), eq-eqb (finish y) (finish y) refl)
+  end-y n = simp (ne-eqb _ _ (n .0), ne-eqb _ _ (n .1), ne-eqb _ _ (n .2), eq-eqb (endLine y) (endLine y) refl)
 
   -- no line of either run
   abbrev Quiet : ℕ → Type 0
-  Quiet l = (l ≢ start x) × (l ≢ finish x) × (l ≢ start y) × (l ≢ finish y)
+  Quiet l = (l ≢ beginLine x) × (l ≢ endLine x) × (l ≢ beginLine y) × (l ≢ endLine y)
 
   quiet : (l : ℕ) → Quiet l → letterAt l x y ≡ []
   unfolding letterAt
@@ -69,74 +69,74 @@ module _ (x y : Run) where
 
   module _ (n : ℕ) (s : InLog n x y) where
     -- up to a line m: neither run has ended, or only the first, before the second begins
-    xy : (m : ℕ) → start y ≤ m → Unread m (finish x) → Unread m (finish y) → X ∷ Y ∷ [] ≡ wordOf m x y
+    xy : (m : ℕ) → beginLine y ≤ m → Unread m (endLine x) → Unread m (endLine y) → X ∷ Y ∷ [] ≡ wordOf m x y
     xy m r p q =
-        last m (start y) (omega arith) (begin-y (omega arith))
+        last m (beginLine y) (omega arith) (begin-y (omega arith))
         (λ l h k. (omega arith, p l (omega arith) k, omega arith, q l (omega arith) k))
-        (last (start y - 1) (start x) (omega arith) begin-x
+        (last (beginLine y - 1) (beginLine x) (omega arith) begin-x
         (λ l h k. (omega arith, p l (omega arith) (omega arith), omega arith, q l (omega arith) (omega arith)))
-        (none (start x - 1)
+        (none (beginLine x - 1)
         (λ l h k. (omega arith, p l h (omega arith), omega arith, q l h (omega arith)))))
 
-    xxy : (m : ℕ) → start x < finish x → finish x < start y → start y ≤ m → Unread m (finish y) → X ∷ X ∷ Y ∷ [] ≡ wordOf m x y
+    xxy : (m : ℕ) → beginLine x < endLine x → endLine x < beginLine y → beginLine y ≤ m → Unread m (endLine y) → X ∷ X ∷ Y ∷ [] ≡ wordOf m x y
     xxy m p o r q =
-        last m (start y) (omega arith) (begin-y (omega arith))
+        last m (beginLine y) (omega arith) (begin-y (omega arith))
         (λ l h k. (omega arith, omega arith, omega arith, q l (omega arith) k))
-        (last (start y - 1) (finish x) (omega arith) end-x
+        (last (beginLine y - 1) (endLine x) (omega arith) end-x
         (λ l h k. (omega arith, omega arith, omega arith, q l (omega arith) (omega arith)))
-        (last (finish x - 1) (start x) (omega arith) begin-x
+        (last (endLine x - 1) (beginLine x) (omega arith) begin-x
         (λ l h k. (omega arith, omega arith, omega arith, q l (omega arith) (omega arith)))
-        (none (start x - 1)
+        (none (beginLine x - 1)
         (λ l h k. (omega arith, omega arith, omega arith, q l h (omega arith))))))
 
-    word-1 : finish x ≡ 0 → finish y ≡ 0 → X ∷ Y ∷ [] ≡ wordOf n x y
+    word-1 : endLine x ≡ 0 → endLine y ≡ 0 → X ∷ Y ∷ [] ≡ wordOf n x y
     word-1 p q = xy n (s .begun) (λ l h k. omega arith) (λ l h k. omega arith)
 
-    word-2 : start x < finish x → finish x < start y → finish y ≡ 0 → X ∷ X ∷ Y ∷ [] ≡ wordOf n x y
+    word-2 : beginLine x < endLine x → endLine x < beginLine y → endLine y ≡ 0 → X ∷ X ∷ Y ∷ [] ≡ wordOf n x y
     word-2 p o q = xxy n p o (s .begun) (λ l h k. omega arith)
 
-    word-3 : start y < finish x → finish y ≡ 0 → X ∷ Y ∷ X ∷ [] ≡ wordOf n x y
+    word-3 : beginLine y < endLine x → endLine y ≡ 0 → X ∷ Y ∷ X ∷ [] ≡ wordOf n x y
     word-3 p q =
-        last n (finish x) (omega arith) end-x (λ l h k. omega arith)
-        (xy (finish x - 1) (omega arith) (λ l h k. omega arith) (λ l h k. omega arith))
+        last n (endLine x) (omega arith) end-x (λ l h k. omega arith)
+        (xy (endLine x - 1) (omega arith) (λ l h k. omega arith) (λ l h k. omega arith))
 
-    word-4 : finish x ≡ 0 → start y < finish y → X ∷ Y ∷ Y ∷ [] ≡ wordOf n x y
+    word-4 : endLine x ≡ 0 → beginLine y < endLine y → X ∷ Y ∷ Y ∷ [] ≡ wordOf n x y
     word-4 p q =
-        last n (finish y) (omega arith) (end-y (omega arith)) (λ l h k. omega arith)
-        (xy (finish y - 1) (omega arith) (λ l h k. omega arith) (λ l h k. omega arith))
+        last n (endLine y) (omega arith) (end-y (omega arith)) (λ l h k. omega arith)
+        (xy (endLine y - 1) (omega arith) (λ l h k. omega arith) (λ l h k. omega arith))
 
-    word-5 : start x < finish x → finish x < start y → start y < finish y → X ∷ X ∷ Y ∷ Y ∷ [] ≡ wordOf n x y
+    word-5 : beginLine x < endLine x → endLine x < beginLine y → beginLine y < endLine y → X ∷ X ∷ Y ∷ Y ∷ [] ≡ wordOf n x y
     word-5 p o q =
-        last n (finish y) (omega arith) (end-y (omega arith)) (λ l h k. omega arith)
-        (xxy (finish y - 1) p o (omega arith) (λ l h k. omega arith))
+        last n (endLine y) (omega arith) (end-y (omega arith)) (λ l h k. omega arith)
+        (xxy (endLine y - 1) p o (omega arith) (λ l h k. omega arith))
 
-    word-6 : start y < finish x → finish x < finish y → X ∷ Y ∷ X ∷ Y ∷ [] ≡ wordOf n x y
+    word-6 : beginLine y < endLine x → endLine x < endLine y → X ∷ Y ∷ X ∷ Y ∷ [] ≡ wordOf n x y
     word-6 p q =
-        last n (finish y) (omega arith) (end-y (omega arith)) (λ l h k. omega arith)
-        (last (finish y - 1) (finish x) (omega arith) end-x (λ l h k. omega arith)
-        (xy (finish x - 1) (omega arith) (λ l h k. omega arith) (λ l h k. omega arith)))
+        last n (endLine y) (omega arith) (end-y (omega arith)) (λ l h k. omega arith)
+        (last (endLine y - 1) (endLine x) (omega arith) end-x (λ l h k. omega arith)
+        (xy (endLine x - 1) (omega arith) (λ l h k. omega arith) (λ l h k. omega arith)))
 
-    word-7 : start y < finish y → finish y < finish x → X ∷ Y ∷ Y ∷ X ∷ [] ≡ wordOf n x y
+    word-7 : beginLine y < endLine y → endLine y < endLine x → X ∷ Y ∷ Y ∷ X ∷ [] ≡ wordOf n x y
     word-7 p q =
-        last n (finish x) (omega arith) end-x (λ l h k. omega arith)
-        (last (finish x - 1) (finish y) (omega arith) (end-y (omega arith)) (λ l h k. omega arith)
-        (xy (finish y - 1) (omega arith) (λ l h k. omega arith) (λ l h k. omega arith)))
+        last n (endLine x) (omega arith) end-x (λ l h k. omega arith)
+        (last (endLine x - 1) (endLine y) (omega arith) (end-y (omega arith)) (λ l h k. omega arith)
+        (xy (endLine y - 1) (omega arith) (λ l h k. omega arith) (λ l h k. omega arith)))
 
     pub pair-word : pairSet x y ≡ nameOf (wordOf n x y)
     unfolding nameOf
     pair-word =
-        either-eq (finish x) 0
-        (λ p. either-eq (finish y) 0
+        either-eq (endLine x) 0
+        (λ p. either-eq (endLine y) 0
         (λ q. sym (set-1 x y p q) ∙ ap nameOf (word-1 p q))
         (λ q. sym (set-4 x y p q) ∙ ap nameOf (word-4 p (s .second-ends q))))
-        (λ p. either-lt (finish x) (start y)
-        (λ o. either-eq (finish y) 0
+        (λ p. either-lt (endLine x) (beginLine y)
+        (λ o. either-eq (endLine y) 0
         (λ q. sym (set-2 x y p o q) ∙ ap nameOf (word-2 (s .first-ends p) o q))
         (λ q. sym (set-5 x y p o q) ∙ ap nameOf (word-5 (s .first-ends p) o (s .second-ends q))))
         (λ o.
-        let m : start y < finish x = omega arith in
-        either-eq (finish y) 0
+        let m : beginLine y < endLine x = omega arith in
+        either-eq (endLine y) 0
         (λ q. sym (set-3 x y p o q) ∙ ap nameOf (word-3 m q))
-        (λ q. either-lt (finish x) (finish y)
+        (λ q. either-lt (endLine x) (endLine y)
         (λ t. sym (set-6 x y p o q t) ∙ ap nameOf (word-6 m t))
         (λ t. sym (set-7 x y p o q t) ∙ ap nameOf (word-7 (s .second-ends q) (omega (arith, s .ends-apart p)))))))

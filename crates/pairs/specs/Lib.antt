@@ -1,5 +1,6 @@
 pub mod Grid
 pub mod Pairs
 pub mod Word
+pub mod Code
 pub mod Refresh
 pub mod Start

@@ -9,10 +9,11 @@ use Rattle.trace.specs.Trace.{noTrace}
 use Rattle.trace.specs.Record.{recordOf}
 use Rattle.pairs.specs.declared.Started.{Started}
 use Rattle.pairs.specs.declared.Start.the-variants.{Ready, Refused}
+use Rattle.pairs.specs.Grid.{workSize}
 use Rattle.pairs.specs.Pairs.{workOf}
 
 -- the answer and the work area, for the work area w
 unfoldable pub startOf : List ℕ → Started × List ℕ
 startOf w =
-    cond (ltb (length w) 16384) (record { state = recordOf noTrace; outcome = Refused 20 }, w)
+    cond (ltb (length w) workSize) (record { state = recordOf noTrace; outcome = Refused 20 }, w)
     (record { state = recordOf noTrace; outcome = Ready }, workOf [] w)

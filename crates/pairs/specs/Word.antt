@@ -5,7 +5,7 @@ use mathlib.Core.Bool.{Bool, true, false, _&&_, _||_, cond}
 use mathlib.Core.List.{List, [], _∷_, _++_}
 use lib.Dec.{eqb}
 use Rattle.trace.specs.declared.Run.{Run}
-use Rattle.trace.specs.Trace.{start, finish}
+use Rattle.trace.specs.Trace.{beginLine, endLine}
 
 -- a line of the first run, or of the second
 pub data Letter : Type 0 where
@@ -14,7 +14,7 @@ pub data Letter : Type 0 where
 
 -- whether line l is the run's begin line or its end line
 abbrev pub lineOf? : ℕ → Run → Bool
-lineOf? l r = eqb l (start r) || eqb l (finish r)
+lineOf? l r = eqb l (beginLine r) || eqb l (endLine r)
 
 -- the letter of line l, or none
 unfoldable pub letterAt : ℕ → Run → Run → List Letter
@@ -51,12 +51,12 @@ nameOf w =
 
 -- Two runs of a log of n lines, x begun first: a run ends after it begins, and no line belongs to both.
 pub record InLog (n : ℕ) (x y : Run) : Type 0 where
-  pub numbered : 0 < start x
-  pub in-order : start x < start y
-  pub begun : start y ≤ n
-  pub first-read : finish x ≤ n
-  pub second-read : finish y ≤ n
-  pub first-ends : (finish x ≡ 0 → ⊥) → start x < finish x
-  pub second-ends : (finish y ≡ 0 → ⊥) → start y < finish y
-  pub apart : finish x ≡ start y → ⊥
-  pub ends-apart : (finish x ≡ 0 → ⊥) → finish x ≡ finish y → ⊥
+  pub numbered : 0 < beginLine x
+  pub in-order : beginLine x < beginLine y
+  pub begun : beginLine y ≤ n
+  pub first-read : endLine x ≤ n
+  pub second-read : endLine y ≤ n
+  pub first-ends : (endLine x ≡ 0 → ⊥) → beginLine x < endLine x
+  pub second-ends : (endLine y ≡ 0 → ⊥) → beginLine y < endLine y
+  pub apart : endLine x ≡ beginLine y → ⊥
+  pub ends-apart : (endLine x ≡ 0 → ⊥) → endLine x ≡ endLine y → ⊥

@@ -42,7 +42,7 @@ pub fn show_area(work: &[u8]) {
 pub fn refresh(r: Record, k: RunNo, work: &mut [u8]) {
     let runs = r.runs;
     let n = runs.count;
-    if k.0 < 128 {
+    if (k.0 as usize) < n {
         if n <= 128 {
             if 16384 <= work.len() {
                 pairs::refresh_run(runs, k, work);

@@ -34,7 +34,7 @@ fn show_start(work: &mut [u8]) {
     test_text::write(b", lines ");
     test_text::write_number(r.lines.0 as u64);
     test_text::write(b", record");
-    test_text::write_answer(trace::is_record(r));
+    test_text::write_answer(replay::is_record(r));
     area::show_area(work);
 }
 

@@ -21,7 +21,7 @@ use Rattle.lines.proofs.Event.{Fine, event-fine}
 use Rattle.trace.specs.declared.Record.{Record}
 use Rattle.trace.specs.Trace.{Trace, next, noRun, begin, end, apply, Accepted}
 use Rattle.trace.specs.Record.{recordOf, Valid, Bounded}
-use Rattle.trace.proofs.Taken.{event-taken}
+use Rattle.trace.proofs.Taken.{event-taken, line-event}
 use Rattle.trace.proofs.Bounds.{accepted-bounded}
 use Rattle.trace.proofs.Induction.{accepted-keeps}
 use Rattle.record_bytes.specs.Form.{recordBytes, recordFrom}
@@ -67,7 +67,7 @@ full-step t u e g f q =
 
 accepted-full : (log : List ℕ) (t : Trace) → Accepted log t → AllFull (t .labels)
 accepted-full log t a =
-    accepted-keeps (λ _ t. AllFull (t .labels)) (λ l ls t u f e. full-step t u (eventOf l) (event-fine l) f e) log t a (λ k h. absurd (omega arith))
+    accepted-keeps (λ _ t. AllFull (t .labels)) (λ l ls t u f e. full-step t u (eventOf l) (event-fine l) f (line-event t u l e)) log t a (λ k h. absurd (omega arith))
 
 -- the array of labels, filled up with missing ones
 pad-full : (ls : List Label) → AllFull ls → (i : ℕ) → i < 64 → Full (getD (pad noLabel 64 ls) i absent)

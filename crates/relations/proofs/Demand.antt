@@ -8,7 +8,7 @@ use mathlib.Core.List.{List}
 use native.Mathlib.Omega.{arith}
 use borrow.Author.Tests.{le-leb, lt-leb}
 use lib.Dec.{T}
-use Rattle.trace.specs.Trace.{runAt, start, finish}
+use Rattle.trace.specs.Trace.{start, finish}
 use Rattle.trace.proofs.Accepted.{accepted-orderly}
 use Rattle.relations.specs.declared.Composed.the-variants.{Set, Refused}
 use Rattle.relations.specs.Relation.{Relation}
@@ -22,7 +22,7 @@ use Rattle.relations.proofs.Witness.{shown-by-three}
 
 -- ── what a log shows ──
 module _ (log : List ℕ) (a b : ℕ) (r : Relation) (s : Shown log a b r) where
-  forward : (k : ℕ) → FinishedRun (s .trace) k → start (runAt (s .trace) k) < finish (runAt (s .trace) k)
+  forward : (k : ℕ) → FinishedRun (s .trace) k → start (s .trace) k < finish (s .trace) k
   forward k h = accepted-orderly log (s .trace) (s .accepted) .forward k (h .ended)
 
   met : T (member? r (single (s .x-y .relation) (s .y-z .relation)))

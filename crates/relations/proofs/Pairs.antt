@@ -9,10 +9,10 @@ use native.Mathlib.Omega.{arith}
 use lib.ListN.{length}
 use Rattle.lists.proofs.Cases.{either-lt, either-eq}
 use Rattle.trace.specs.declared.Run.{Run}
-use Rattle.trace.specs.Trace.{Trace, runAt, start, finish, Accepted}
+use Rattle.trace.specs.Trace.{Trace, runAt, beginLine, endLine, start, Accepted}
 use Rattle.trace.proofs.Accepted.{accepted-orderly}
 use Rattle.pairs.specs.Pairs.{pairSet, pairByte}
-use Rattle.pairs.proofs.Pairs.{set-1, set-2, set-3, set-4, set-5, set-6, set-7, cell-in, cell-late, cell-low, pair-cell}
+use Rattle.pairs.proofs.Pairs.{set-1, set-2, set-3, set-4, set-5, set-6, set-7, pair-in, pair-late, pair-low}
 use Rattle.relations.specs.Relation.{Relation, before, after, overlaps, overlapped, includes, during, number}
 use Rattle.relations.specs.Runs.{FinishedRun, RelatesRuns, relationIn}
 use Rattle.relations.specs.Pairs.{Agree, Noted}
@@ -21,23 +21,23 @@ use Rattle.relations.proofs.Runs.{finished-run, runs-apart}
 
 -- ── the byte of two runs ──
 -- a pair of which one is open
-open-low : (X Y : Run) → (0 < finish X → 0 < finish Y → ⊥) → pairSet X Y < 5
+open-low : (X Y : Run) → (0 < endLine X → 0 < endLine Y → ⊥) → pairSet X Y < 5
 open-low X Y n =
-    either-eq (finish X) 0
-    (λ p. either-eq (finish Y) 0 (λ q. omega (arith, set-1 X Y p q)) (λ q. omega (arith, set-4 X Y p q)))
-    (λ p. either-eq (finish Y) 0
-    (λ q. either-lt (finish X) (start Y) (λ l. omega (arith, set-2 X Y p l q)) (λ l. omega (arith, set-3 X Y p l q)))
+    either-eq (endLine X) 0
+    (λ p. either-eq (endLine Y) 0 (λ q. omega (arith, set-1 X Y p q)) (λ q. omega (arith, set-4 X Y p q)))
+    (λ p. either-eq (endLine Y) 0
+    (λ q. either-lt (endLine X) (beginLine Y) (λ l. omega (arith, set-2 X Y p l q)) (λ l. omega (arith, set-3 X Y p l q)))
     (λ q. absurd (n (omega arith) (omega arith))))
 
 module _ (t : Trace) (x y : ℕ) where
   byte-late : y ≤ x → pairByte (t .runs) x y ≡ 0
-  byte-late h = pair-cell (t .runs) x y ∙ sym (cell-low (length (t .runs)) x y (runAt t x) (runAt t y) h)
+  byte-late h = pair-low (t .runs) x y h
 
   byte-none : length (t .runs) ≤ y → pairByte (t .runs) x y ≡ 0
-  byte-none h = pair-cell (t .runs) x y ∙ sym (cell-late (length (t .runs)) x y (runAt t x) (runAt t y) h)
+  byte-none h = pair-late (t .runs) x y h
 
   byte-set : x < y → y < length (t .runs) → pairByte (t .runs) x y ≡ pairSet (runAt t x) (runAt t y)
-  byte-set h k = pair-cell (t .runs) x y ∙ sym (cell-in (length (t .runs)) x y (runAt t x) (runAt t y) _ h k refl)
+  byte-set h k = pair-in (t .runs) x y h k
 
   byte-low : (FinishedRun t x → FinishedRun t y → ⊥) → pairByte (t .runs) x y < 5
   byte-low n =
@@ -59,17 +59,17 @@ module _ (log : List ℕ) (t : Trace) (accepted : Accepted log t) (x y : ℕ) wh
       let Y : Run = runAt t y in
       let l = accepted-orderly log t accepted in
       let e : pairByte (t .runs) x y ≡ pairSet X Y = byte-set t x y h (fy .begun) in
-      let p : finish X ≢ 0 = λ z. omega (arith, fx .ended) in
-      let q : finish Y ≢ 0 = λ z. omega (arith, fy .ended) in
-      let s : start X < start Y = l .order x y h (fy .begun) in
-      let g : start Y < finish Y = l .forward y (fy .ended) in
+      let p : endLine X ≢ 0 = λ z. omega (arith, fx .ended) in
+      let q : endLine Y ≢ 0 = λ z. omega (arith, fy .ended) in
+      let s : beginLine X < beginLine Y = l .order x y h (fy .begun) in
+      let g : beginLine Y < endLine Y = l .forward y (fy .ended) in
       let d : x ≢ y = λ z. omega arith in
       let a = runs-apart log t accepted x y d fx fy in
-      either-lt (finish X) (start Y)
+      either-lt (endLine X) (beginLine Y)
       (λ m. b (e ∙ sym (set-5 X Y p m q)) m)
       (λ m.
-      let k : start Y < finish X = omega (arith, a .2) in
-      either-lt (finish X) (finish Y)
+      let k : beginLine Y < endLine X = omega (arith, a .2) in
+      either-lt (endLine X) (endLine Y)
       (λ n. o (e ∙ sym (set-6 X Y p m q n)) (s, k, n))
       (λ n. i (e ∙ sym (set-7 X Y p m q n)) (s, g, omega (arith, a .3))))
 
@@ -93,18 +93,18 @@ module _ (log : List ℕ) (t : Trace) (accepted : Accepted log t) (x y : ℕ) wh
       (λ e m. let p = numbers includes fx fy m in let q = backwards during fx fy m in omega arith)
 
   -- what begins first has the smaller number
-  earlier : FinishedRun t x → start (runAt t x) < start (runAt t y) → x < y
+  earlier : FinishedRun t x → start t x < start t y → x < y
   earlier fx h =
       either-lt x y (λ l. l)
       (λ l. either-eq x y
-      (λ e. let z : start (runAt t x) ≡ start (runAt t y) = ap (λ (k : ℕ). start (runAt t k)) e in absurd (omega arith))
+      (λ e. let z : start t x ≡ start t y = ap (λ (k : ℕ). start t k) e in absurd (omega arith))
       (λ n. let m : y < x = omega arith in absurd (omega (arith, accepted-orderly log t accepted .order y x m (fx .begun)))))
 
   -- a byte of 5 and more is that of two finished runs
   noted-runs : {C : Type 0} → 5 ≤ pairByte (t .runs) x y → (x < y → FinishedRun t x → FinishedRun t y → C) → C
   noted-runs h k =
-      either-lt 0 (finish (runAt t x))
-      (λ p. either-lt 0 (finish (runAt t y))
+      either-lt 0 (endLine (runAt t x))
+      (λ p. either-lt 0 (endLine (runAt t y))
       (λ q. either-lt x y (λ l. k l (finished-run t x p) (finished-run t y q)) (λ l. absurd (omega (arith, byte-late t x y l))))
       (λ q. absurd (omega (arith, byte-low t x y (λ a b. omega (arith, b .ended))))))
       (λ p. absurd (omega (arith, byte-low t x y (λ a b. omega (arith, a .ended)))))

@@ -13,7 +13,7 @@ use Rattle.lists.proofs.Cases.{either-lt, either-eq, no-both}
 use Rattle.lists.proofs.Lists.{getD-pad}
 use Rattle.trace.specs.declared.Record.{Record}
 use Rattle.trace.specs.declared.RunNo.{RunNo}
-use Rattle.trace.specs.Trace.{Trace, noRun, runAt, start, finish, Finished, Accepted}
+use Rattle.trace.specs.Trace.{Trace, noRun, runAt, endLine, start, finish, Finished, Accepted}
 use Rattle.trace.specs.Record.{recordOf, Valid}
 use Rattle.trace.proofs.Accepted.{accepted-orderly}
 use Rattle.relations.specs.declared.Span.{Span}
@@ -27,7 +27,7 @@ use Rattle.relations.proofs.Relation.{six-at, one-holds}
 pub finished-run : (t : Trace) (k : ℕ) → Finished (runAt t k) → FinishedRun t k
 finished-run t k f =
     either-lt k (length (t .runs)) (λ h. record { begun = h; ended = f })
-    (λ h. let e : finish (runAt t k) ≡ 0 = ap finish (List·getD-eq-default (t .runs) noRun h) in absurd (omega arith))
+    (λ h. let e : endLine (runAt t k) ≡ 0 = ap endLine (List·getD-eq-default (t .runs) noRun h) in absurd (omega arith))
 
 -- "A run has none of the three to itself", nor any of the six.
 pub none-to-itself : (log : List ℕ) (t : Trace) → Accepted log t → (x : ℕ) → FinishedRun t x → (r : Relation) → RelatesRuns r t x x → ⊥
@@ -37,7 +37,7 @@ none-to-itself log t accepted x f =
 
 -- ── two different finished runs of an accepted log ──
 module _ (log : List ℕ) (t : Trace) (accepted : Accepted log t) (x y : ℕ) (differ : x ≢ y) (fx : FinishedRun t x) (fy : FinishedRun t y) where
-  pub runs-apart : Apart (start (runAt t x)) (finish (runAt t x)) (start (runAt t y)) (finish (runAt t y))
+  pub runs-apart : Apart (start t x) (finish t x) (start t y) (finish t y)
   runs-apart =
       let o = accepted-orderly log t accepted in (
         λ e.
@@ -49,7 +49,7 @@ module _ (log : List ℕ) (t : Trace) (accepted : Accepted log t) (x y : ℕ) (d
       )
 
   -- "Between two different finished runs one of six holds"
-  pub one-relation : OneHolds (start (runAt t x)) (finish (runAt t x)) (start (runAt t y)) (finish (runAt t y)) (relationIn t x y)
+  pub one-relation : OneHolds (start t x) (finish t x) (start t y) (finish t y) (relationIn t x y)
   one-relation =
       let o = accepted-orderly log t accepted in
       one-holds _ _ _ _ (o .forward x (fx .ended)) (o .forward y (fy .ended)) runs-apart
@@ -59,8 +59,8 @@ module _ (t : Trace) (a b : ℕ) where
   pub not-finished : (FinishedRun t a × FinishedRun t b → ⊥) → Refused 22 ≡ relateIn t a b
   unfolding relateIn
   not-finished n =
-      either-lt 0 (finish (runAt t a))
-      (λ p. either-lt 0 (finish (runAt t b))
+      either-lt 0 (endLine (runAt t a))
+      (λ p. either-lt 0 (endLine (runAt t b))
       (λ q. absurd (n (finished-run t a p, finished-run t b q)))
       (λ q. simp (lt-ltb _ _ p, le-ltb _ _ q)))
       (λ p. simp (le-ltb _ _ p))
@@ -68,7 +68,7 @@ module _ (t : Trace) (a b : ℕ) where
   pub same-finished : FinishedRun t a → a ≡ b → Refused 23 ≡ relateIn t a b
   unfolding relateIn
   same-finished f e =
-      let g : 0 < finish (runAt t b) = subst (λ (k : ℕ). 0 < finish (runAt t k)) e (f .ended) in
+      let g : 0 < endLine (runAt t b) = subst (λ (k : ℕ). 0 < endLine (runAt t k)) e (f .ended) in
       simp (lt-ltb _ _ (f .ended), lt-ltb _ _ g, eq-eqb _ _ e)
 
   pub both-finished : FinishedRun t a → FinishedRun t b → a ≢ b → Relation-no (relationIn t a b) ≡ relateIn t a b
@@ -78,8 +78,8 @@ module _ (t : Trace) (a b : ℕ) where
   by-runs : {C : Type 0} → ((FinishedRun t a × FinishedRun t b → ⊥) → C) → (FinishedRun t a → a ≡ b → C)
       → (FinishedRun t a → FinishedRun t b → a ≢ b → C) → C
   by-runs u s r =
-      either-lt 0 (finish (runAt t a))
-      (λ p. either-lt 0 (finish (runAt t b))
+      either-lt 0 (endLine (runAt t a))
+      (λ p. either-lt 0 (endLine (runAt t b))
       (λ q. either-eq a b (s (finished-run t a p)) (r (finished-run t a p) (finished-run t b q)))
       (λ q. u (λ h. omega (arith, h .1 .ended))))
       (λ p. u (λ h. omega (arith, h .0 .ended)))
@@ -167,14 +167,14 @@ module _ (r : Record) (a b : RunNo) where
       p ∙ (ap (λ (q : Record). spanOf (getD (q .runs .list) k noRun)) e ∙ ap spanOf (getD-pad noRun 128 (t .runs) k))
 
   module _ (v : Valid r) (x : Span) (p : x ≡ spanOf (getD (r .runs .list) (a .0) noRun)) where
-    finish-first : (t : Trace) → r ≡ recordOf t → x .finish ≡ finish (runAt t (a .0))
+    finish-first : (t : Trace) → r ≡ recordOf t → x .finish ≡ finish t (a .0)
     finish-first t e = ap (λ (s : Span). s .finish) (span-in t (a .0) x p e)
 
     pub first-unfinished : x .finish ≡ 0 → Relating r a b (Refused 22)
     first-unfinished z = of-record (Refused 22) v (λ t e. not-finished t (a .0) (b .0) (λ h. omega (arith, h .0 .ended, finish-first t e)))
 
     module _ (y : Span) (q : y ≡ spanOf (getD (r .runs .list) (b .0) noRun)) where
-      finish-second : (t : Trace) → r ≡ recordOf t → y .finish ≡ finish (runAt t (b .0))
+      finish-second : (t : Trace) → r ≡ recordOf t → y .finish ≡ finish t (b .0)
       finish-second t e = ap (λ (s : Span). s .finish) (span-in t (b .0) y q e)
 
       pub second-unfinished : y .finish ≡ 0 → Relating r a b (Refused 22)

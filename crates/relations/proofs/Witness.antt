@@ -11,7 +11,7 @@ use Rattle.lists.specs.Lists.{has?, bytes?}
 use Rattle.labels.specs.Label.{labelOf}
 use Rattle.labels.specs.Table.{numberOf, withLabel}
 use Rattle.lines.specs.Line.{eventOf}
-use Rattle.trace.specs.Trace.{Trace, Answer, next, refused, runAt, start, finish, placeOf, endOf, close, begin, end, beginRun, endRun, apply, applyTo, step, read, Accepted}
+use Rattle.trace.specs.Trace.{Trace, Answer, next, refused, runAt, endLine, start, finish, placeOf, endOf, close, begin, end, beginRun, endRun, apply, applyTo, step, read, Accepted}
 use Rattle.relations.specs.Relation.{Relation, before, after, overlaps, overlapped, includes, during, relates?}
 use Rattle.relations.specs.Sets.{Member, member?}
 use Rattle.relations.specs.Runs.{RelatesRuns}
@@ -84,12 +84,12 @@ witness p q r = logFrom [] (digits 6 (getD codes (place p * 36 + place q * 6 + p
 
 -- ── what a log is tested for ──
 abbrev related? : Relation → Trace → ℕ → ℕ → Bool
-related? r t x y = relates? r (start (runAt t x)) (finish (runAt t x)) (start (runAt t y)) (finish (runAt t y))
+related? r t x y = relates? r (start t x) (finish t x) (start t y) (finish t y)
 
 abbrev tests : Relation → Relation → Relation → Trace → ℕ → ℕ → ℕ → List Bool
 tests p q r t x y z =
     eqb (length (t .runs)) 3 ∷ ltb x (length (t .runs)) ∷ ltb y (length (t .runs)) ∷ ltb z (length (t .runs))
-    ∷ ltb 0 (finish (runAt t x)) ∷ ltb 0 (finish (runAt t y)) ∷ ltb 0 (finish (runAt t z))
+    ∷ ltb 0 (endLine (runAt t x)) ∷ ltb 0 (endLine (runAt t y)) ∷ ltb 0 (endLine (runAt t z))
     ∷ not (eqb x y) ∷ not (eqb y z) ∷ not (eqb x z)
     ∷ related? p t x y ∷ related? q t y z ∷ related? r t x z ∷ []
 
@@ -131,9 +131,9 @@ shows a b p q r log t e ha hb u =
             x = x;
             y = y;
             z = z;
-            x-finished = record { begun = ltb→lt x n (h .1 .0); ended = ltb→lt 0 (finish (runAt t x)) (ends .0) };
-            y-finished = record { begun = ltb→lt y n (h .1 .1 .0); ended = ltb→lt 0 (finish (runAt t y)) (ends .1 .0) };
-            z-finished = record { begun = ltb→lt z n (h .1 .1 .1 .0); ended = ltb→lt 0 (finish (runAt t z)) (ends .1 .1 .0) };
+            x-finished = record { begun = ltb→lt x n (h .1 .0); ended = ltb→lt 0 (endLine (runAt t x)) (ends .0) };
+            y-finished = record { begun = ltb→lt y n (h .1 .1 .0); ended = ltb→lt 0 (endLine (runAt t y)) (ends .1 .0) };
+            z-finished = record { begun = ltb→lt z n (h .1 .1 .1 .0); ended = ltb→lt 0 (endLine (runAt t z)) (ends .1 .1 .0) };
             x-not-y = differ x y (differs .0);
             y-not-z = differ y z (differs .1 .0);
             x-not-z = differ x z (differs .1 .1 .0);

@@ -10,7 +10,7 @@ use Rattle.lists.specs.Tells.{Tells}
 use Rattle.trace.specs.declared.Record.{Record}
 use Rattle.trace.specs.declared.Run.{Run}
 use Rattle.trace.specs.declared.RunNo.{RunNo}
-use Rattle.trace.specs.Trace.{Trace, runAt, start, finish, Finished, Accepted}
+use Rattle.trace.specs.Trace.{Trace, runAt, beginLine, endLine, start, finish, Finished, Accepted}
 use Rattle.trace.specs.Record.{recordOf, Valid}
 use Rattle.relations.specs.Relation.{Relation, Relates, relationOf, OneHolds, converse}
 use Rattle.relations.specs.Sets.{Member, converseOf, conversedOf}
@@ -21,7 +21,7 @@ use Rattle.relations.specs.declared.Related.{Related}
 use Rattle.relations.specs.declared.Related.the-variants.{Relation as Relation-no, Refused}
 
 abbrev pub spanOf : Run → Span
-spanOf r = record { start = start r; finish = finish r }
+spanOf r = record { start = beginLine r; finish = endLine r }
 
 -- "A run is finished once its end line is among the lines read": k is the number of a finished run of t
 pub record FinishedRun (t : Trace) (k : ℕ) : Type 0 where
@@ -30,15 +30,15 @@ pub record FinishedRun (t : Trace) (k : ℕ) : Type 0 where
 
 -- "what relates one to another is the relation that start and finish under "Meaning" give": r relates run x of t to run y
 abbrev pub RelatesRuns : Relation → Trace → ℕ → ℕ → Type 0
-RelatesRuns r t x y = Relates r (start (runAt t x)) (finish (runAt t x)) (start (runAt t y)) (finish (runAt t y))
+RelatesRuns r t x y = Relates r (start t x) (finish t x) (start t y) (finish t y)
 
 -- the number of the relation of run x of t to run y
 abbrev pub relationIn : Trace → ℕ → ℕ → ℕ
-relationIn t x y = relationOf (start (runAt t x)) (finish (runAt t x)) (start (runAt t y)) (finish (runAt t y))
+relationIn t x y = relationOf (start t x) (finish t x) (start t y) (finish t y)
 
 -- ── relating two runs ──
 abbrev pub finished? : Trace → ℕ → Bool
-finished? t k = ltb 0 (finish (runAt t k))
+finished? t k = ltb 0 (endLine (runAt t k))
 
 -- "One call takes a record and two run numbers and answers their one relation by its number", of the record of t. "22 a run
 -- number with no finished run; 23 the same finished run twice"
@@ -51,7 +51,7 @@ pub record RelatedAs (t : Trace) (a b n : ℕ) : Type 0 where
   pub first : FinishedRun t a
   pub second : FinishedRun t b
   pub different : a ≢ b
-  pub one : OneHolds (start (runAt t a)) (finish (runAt t a)) (start (runAt t b)) (finish (runAt t b)) n
+  pub one : OneHolds (start t a) (finish t a) (start t b) (finish t b) n
 
 -- what the answer w says of runs a and b of t
 pub record Answers (t : Trace) (a b : ℕ) (w : Related) : Type 0 where

@@ -120,7 +120,7 @@ fn span_of(t: RunTable, k: RunNo) -> Span
 pub fn relate(r: Record, a: RunNo, b: RunNo) -> Related
     ensures { λ w. ⌜ Relating r a b w ⌝ }
 {
-    if !trace::is_record(r) {
+    if !replay::is_record(r) {
         return Related::Refused(21);
     }
     let runs = r.runs;

@@ -12,6 +12,7 @@ use Rattle.lists.proofs.Lists.{take-pad}
 use Rattle.trace.specs.declared.Record.{Record}
 use Rattle.trace.specs.Trace.{Trace, noRun}
 use Rattle.trace.specs.Record.{recordOf}
+use Rattle.pairs.specs.Grid.{workSize}
 use Rattle.rules.specs.declared.RuleRead.{RuleRead}
 use Rattle.rules.specs.declared.RuleRead.the-variants as RuleRead
 use Rattle.rules.specs.Rules.{ruleOf}
@@ -19,9 +20,9 @@ use Rattle.rules.proofs.Rules.{rule-taken}
 use Rattle.rules.proofs.Cut.{first-bytes-decide-rule}
 use Rattle.reading.specs.declared.Ending.{Ending}
 use Rattle.monitor.specs.Log.{logOf}
-use Rattle.monitor.specs.Tally.{tallyOf}
+use Rattle.tallies.specs.Tally.{tallyOf}
 use Rattle.monitor.specs.Repeated.{Result}
-use Rattle.monitor.proofs.LineCall.{with-refused}
+use Rattle.single.proofs.LineCall.{with-refused}
 use Rattle.monitor.proofs.Cut.{first-bytes-decide}
 use Rattle.report.specs.Text.{refusedText, reportText}
 use Rattle.report.specs.Writing.{recordText}
@@ -55,7 +56,7 @@ buffer n = (replicate n 0, omega (arith, length-replicate {A = ℕ} n 0))
 
 log-cut : (file log : List ℕ) → reportText file (take 8192 log) ≡ reportText file log
 log-cut file log =
-    let w = buffer 16384 in
+    let w = buffer workSize in
     let out = buffer 256 in
     let g : Given file log (logOf file log (w .0) (out .0)) = given file log (w .0) (out .0) (w .1) (out .1) in
     one-text file (take 8192 log) log (logOf file (take 8192 log) (w .0) (out .0))

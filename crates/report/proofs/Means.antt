@@ -7,22 +7,21 @@ use mathlib.Core.List.{List, [], _∷_, _++_, append-assoc}
 use native.Mathlib.Omega.{arith}
 use lib.ListN.{length, getD, take, drop}
 use Rattle.lists.proofs.Lists.{append-nil, Free, free-more}
-use Rattle.lines.specs.Line.{eventOf}
 use Rattle.lines.specs.Log.{linesOf}
-use Rattle.trace.specs.Trace.{Trace, next, refused, noTrace, apply, steps, read, Accepted}
-use Rattle.trace.proofs.Taken.{step-lines}
-use Rattle.trace.proofs.Grown.{WholeLine, whole-first, step-is}
+use Rattle.trace.specs.Trace.{Trace, next, refused, noTrace, steps, read, Accepted, step}
+use Rattle.trace.proofs.Taken.{line-lines}
+use Rattle.trace.proofs.Grown.{WholeLine, whole-first}
 use Rattle.rules.specs.declared.Rule.{Rule}
 use Rattle.rules.specs.Rules.{formulaOf, Taken}
 use Rattle.logic.specs.declared.Verdict.{Verdict}
 use Rattle.logic.specs.declared.Verdict.the-variants.{Holds, Fails}
 use Rattle.logic.specs.Verdict.{verdictOf}
-use Rattle.monitor.specs.declared.Tally.{Tally}
-use Rattle.monitor.specs.Tally.{tallyOf, failed, failingFrom, tallyAfter}
-use Rattle.reading.proofs.Lines.{by-answer}
-use Rattle.monitor.proofs.LineMeans.{verdict-says}
+use Rattle.tallies.specs.declared.Tally.{Tally}
+use Rattle.tallies.specs.Tally.{tallyOf, failed, failingFrom, tallyAfter}
+use Rattle.trace.proofs.Taken.{by-answer}
+use Rattle.single.proofs.LineMeans.{verdict-says}
 use Rattle.reading.proofs.Lines.{same-trace, after-line, no-line, lines-counted}
-use Rattle.monitor.proofs.Failing.{fails-taken, fails-none}
+use Rattle.tallies.proofs.Failing.{fails-taken, fails-none}
 use Rattle.report.specs.Text.{decimal, letter, lineText, refusedText, countText, tallyText, textFrom}
 use Rattle.report.specs.Report.{TextMeans}
 use Rattle.report.proofs.Decimal.{decimal-free}
@@ -80,10 +79,10 @@ module _ (file : List ℕ) (x : Rule) where
   lines-none t n = ap linesOf (text-none file x t n) ∙ line-alone (tallyText (tallyOf t n)) (tally-whole (tallyOf t n))
 
   module _ (t : Trace) (n : ℕ) (l : List ℕ) (ls : List (List ℕ)) where
-    lines-taken : (u : Trace) → apply t (eventOf l) ≡ next u → linesOf (textFrom file x t n (l ∷ ls)) ≡ lineText (u .lines) (verdict u) ∷ linesOf (textFrom file x u (n + failed (verdict u)) ls)
+    lines-taken : (u : Trace) → step (next t) l ≡ next u → linesOf (textFrom file x t n (l ∷ ls)) ≡ lineText (u .lines) (verdict u) ∷ linesOf (textFrom file x u (n + failed (verdict u)) ls)
     lines-taken u p = ap linesOf (text-taken file x t n l ls u p) ∙ whole-first (lineText (u .lines) (verdict u)) (line-whole (u .lines) (verdict u)) _
 
-    lines-refused : (c : ℕ) → apply t (eventOf l) ≡ refused c → linesOf (textFrom file x t n (l ∷ ls)) ≡ refusedText (t .lines + 1) c ∷ tallyText (tallyOf t n) ∷ []
+    lines-refused : (c : ℕ) → step (next t) l ≡ refused c → linesOf (textFrom file x t n (l ∷ ls)) ≡ refusedText (t .lines + 1) c ∷ tallyText (tallyOf t n) ∷ []
     lines-refused c p =
         ap linesOf (text-refused file x t n l ls c p)
         ∙ (whole-first (refusedText (t .lines + 1) c) (refused-whole (t .lines + 1) c) _
@@ -94,12 +93,12 @@ module _ (file : List ℕ) (x : Rule) where
       → getD (linesOf (textFrom file x t n ls)) k [] ≡ lineText (t .lines + suc k) (verdict u)
   line-said k [] t n u h e = absurd (omega arith)
   line-said zero (l ∷ ls) t n u h e =
-      let p : apply t (eventOf l) ≡ next u = sym (step-is t l) ∙ e in
-      ap (λ (z : List (List ℕ)). getD z 0 []) (lines-taken t n l ls u p) ∙ ap (λ (m : ℕ). lineText m (verdict u)) (step-lines t u (eventOf l) p)
+      let p : step (next t) l ≡ next u = e in
+      ap (λ (z : List (List ℕ)). getD z 0 []) (lines-taken t n l ls u p) ∙ ap (λ (m : ℕ). lineText m (verdict u)) (line-lines t u l p)
   line-said (suc k) (l ∷ ls) t n u h e =
       by-answer t l
       (λ v p.
-      let m : v .lines + suc k ≡ t .lines + suc (suc k) = omega (arith, step-lines t v (eventOf l) p) in
+      let m : v .lines + suc k ≡ t .lines + suc (suc k) = omega (arith, line-lines t v l p) in
       ap (λ (z : List (List ℕ)). getD z (suc k) []) (lines-taken t n l ls v p)
       ∙ (line-said k ls v (n + failed (verdict v)) u (omega arith) (after-line t v u l (take (suc k) ls) p e) ∙ ap (λ (j : ℕ). lineText j (verdict u)) m))
       (λ c p. no-line t u c l (take (suc k) ls) p e)
@@ -121,7 +120,7 @@ module _ (file : List ℕ) (x : Rule) where
   -- THE LAW: what the text of a log says
   module _ (taken : Taken file x) (log : List ℕ) where
     stop-said : (before : List (List ℕ)) (last : List ℕ) (after : List (List ℕ)) (t : Trace) (c : ℕ) → linesOf log ≡ before ++ (last ∷ after)
-        → steps (next noTrace) before ≡ next t → apply t (eventOf last) ≡ refused c
+        → steps (next noTrace) before ≡ next t → step (next t) last ≡ refused c
         → drop (length before) (linesOf (textFrom file x noTrace 0 (linesOf log)))
         ≡ refusedText (length before + 1) c ∷ tallyText (tallyOf t (failingFrom file x noTrace before)) ∷ []
     stop-said before last after t c d e p =

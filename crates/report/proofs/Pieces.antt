@@ -10,7 +10,7 @@ use lib.ListN.{length, getD}
 use borrow.Author.Tests.{eq-eqb, ne-eqb}
 use Rattle.reading.specs.declared.Ending.{Ending}
 use Rattle.reading.specs.declared.Ending.the-variants.{Read, Refused}
-use Rattle.monitor.specs.declared.Tally.{Tally}
+use Rattle.tallies.specs.declared.Tally.{Tally}
 use Rattle.report.specs.Text.{decimal, letterLine, refusedText, countText, tallyText}
 use Rattle.report.specs.Writing.{Writes, WritesFew, byteLetter, byteFails, endingText, unread?, LineLow, linesTo, failsTo}
 use Rattle.report.proofs.Decimal.{decimal-one, decimal-two, decimal-three}

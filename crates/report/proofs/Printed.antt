@@ -8,11 +8,10 @@ use native.Mathlib.Numerals.{add-one}
 use lib.ListN.{length, getD, set, length-set}
 use borrow.Author.Tests.{ne-eqb}
 use Rattle.lines.specs.Line.{eventOf}
-use Rattle.trace.specs.Trace.{Trace, Answer, next, refused, apply}
+use Rattle.trace.specs.Trace.{Trace, Answer, next, refused, step}
 use Rattle.trace.specs.Record.{recordOf, Bounded}
-use Rattle.trace.proofs.Taken.{step-lines}
+use Rattle.trace.proofs.Taken.{line-lines, line-event}
 use Rattle.trace.proofs.Bounds.{Sound, sound-step, sound-bounded}
-use Rattle.trace.proofs.Grown.{step-is}
 use Rattle.rules.specs.declared.Rule.{Rule}
 use Rattle.rules.specs.Rules.{formulaOf}
 use Rattle.logic.specs.declared.Verdict.{Verdict}
@@ -20,9 +19,9 @@ use Rattle.logic.specs.declared.Verdict.the-variants.{Holds, Fails}
 use Rattle.logic.specs.Verdict.{verdictByte, verdictOf}
 use Rattle.reading.specs.Reading.{byAnswer}
 use Rattle.monitor.specs.Log.{linesFrom}
-use Rattle.monitor.specs.Tally.{tallyOf, failed}
+use Rattle.tallies.specs.Tally.{tallyOf, failed}
 use Rattle.monitor.specs.Repeated.{Result}
-use Rattle.reading.proofs.Lines.{by-answer}
+use Rattle.trace.proofs.Taken.{by-answer}
 use Rattle.monitor.proofs.Lines.{from-none, from-taken, from-refused}
 use Rattle.monitor.proofs.Prefixes.{line-byte}
 use Rattle.report.specs.Text.{letter, letterLine, lineText, refusedText, tallyText, textFrom}
@@ -56,14 +55,14 @@ module _ (file : List ℕ) (x : Rule) where
   text-none t n = refl
 
   module _ (t : Trace) (n : ℕ) (l : List ℕ) (ls : List (List ℕ)) where
-    pub text-taken : (u : Trace) → apply t (eventOf l) ≡ next u → textFrom file x t n (l ∷ ls) ≡ lineText (u .lines) (verdict u) ++ textFrom file x u (n + failed (verdict u)) ls
+    pub text-taken : (u : Trace) → step (next t) l ≡ next u → textFrom file x t n (l ∷ ls) ≡ lineText (u .lines) (verdict u) ++ textFrom file x u (n + failed (verdict u)) ls
     unfolding textFrom byAnswer
     text-taken u p =
         ap (λ (a : Answer). byAnswer {A = List ℕ} a
         (λ u. lineText (u .lines) (verdict u) ++ textFrom file x u (n + failed (verdict u)) ls)
         (λ c. refusedText (t .lines + 1) c ++ tallyText (tallyOf t n))) p
 
-    pub text-refused : (c : ℕ) → apply t (eventOf l) ≡ refused c → textFrom file x t n (l ∷ ls) ≡ refusedText (t .lines + 1) c ++ tallyText (tallyOf t n)
+    pub text-refused : (c : ℕ) → step (next t) l ≡ refused c → textFrom file x t n (l ∷ ls) ≡ refusedText (t .lines + 1) c ++ tallyText (tallyOf t n)
     unfolding textFrom byAnswer
     text-refused c p =
         ap (λ (a : Answer). byAnswer {A = List ℕ} a
@@ -93,7 +92,7 @@ module _ (file : List ℕ) (x : Rule) where
         })
 
     module _ (t : Trace) (l : List ℕ) (ls : List (List ℕ)) (out : List ℕ) (s : Sound t) where
-      printed-refused : (c : ℕ) → apply t (eventOf l) ≡ refused c → Printed t (l ∷ ls) (linesFrom file x t (l ∷ ls) w out)
+      printed-refused : (c : ℕ) → step (next t) l ≡ refused c → Printed t (l ∷ ls) (linesFrom file x t (l ∷ ls) w out)
       unfolding recordText
       printed-refused c p =
           let b = sound-bounded t s in
@@ -107,11 +106,11 @@ module _ (file : List ℕ) (x : Rule) where
           })
 
       -- the line's text is that of its verdict byte
-      line-printed : (u : Trace) → apply t (eventOf l) ≡ next u → (b : List ℕ) → getD b (t .lines) 0 ≡ verdictByte (verdict u)
+      line-printed : (u : Trace) → step (next t) l ≡ next u → (b : List ℕ) → getD b (t .lines) 0 ≡ verdictByte (verdict u)
           → linesTo b (t .lines) ++ textFrom file x t (failsTo b (t .lines)) (l ∷ ls) ≡ linesTo b (u .lines) ++ textFrom file x u (failsTo b (u .lines)) ls
       line-printed u p b e =
           let k : ℕ = t .lines in
-          let n : suc k ≡ u .lines = sym (step-lines t u (eventOf l) p ∙ add-one k) in
+          let n : suc k ≡ u .lines = sym (line-lines t u l p ∙ add-one k) in
           let f : failsTo b k + failed (verdict u) ≡ failsTo b (u .lines) =
           sym (sym (ap (failsTo b) n) ∙ (fails-suc b k ∙ ap (λ (m : ℕ). failsTo b k + m) (ap byteFails e ∙ fails-byte (verdict u)))) in
           let g : linesTo b (u .lines) ≡ linesTo b k ++ lineText (u .lines) (verdict u) =
@@ -121,13 +120,13 @@ module _ (file : List ℕ) (x : Rule) where
           ap (λ (z : List ℕ). linesTo b k ++ z) (text-taken t (failsTo b k) l ls u p)
           ∙ (sym (append-assoc (linesTo b k) (lineText (u .lines) (verdict u)) _) ∙ (λ i. sym g i ++ textFrom file x u (f i) ls))
 
-      first-byte : (u : Trace) → apply t (eventOf l) ≡ next u → t .lines < length out → getD (linesFrom file x t (l ∷ ls) w out .2) (t .lines) 0 ≡ verdictByte (verdict u)
+      first-byte : (u : Trace) → step (next t) l ≡ next u → t .lines < length out → getD (linesFrom file x t (l ∷ ls) w out .2) (t .lines) 0 ≡ verdictByte (verdict u)
       first-byte u p h =
           let z : t .lines + 0 ≡ t .lines = omega arith in
           subst (λ (k : ℕ). getD (linesFrom file x t (l ∷ ls) w out .2) k 0 ≡ verdictByte (verdict u)) z
-          (line-byte file x w 0 (l ∷ ls) t out u (omega arith) (step-is t l ∙ p) (omega arith))
+          (line-byte file x w 0 (l ∷ ls) t out u (omega arith) p (omega arith))
 
-      printed-taken : (u : Trace) → apply t (eventOf l) ≡ next u → t .lines < length out
+      printed-taken : (u : Trace) → step (next t) l ≡ next u → t .lines < length out
           → Printed u ls (linesFrom file x u ls w (set out (t .lines) (verdictByte (verdict u)))) → Printed t (l ∷ ls) (linesFrom file x t (l ∷ ls) w out)
       printed-taken u p h r =
           let z : Result = linesFrom file x t (l ∷ ls) w out in
@@ -146,9 +145,9 @@ module _ (file : List ℕ) (x : Rule) where
     printed (l ∷ ls) t out s h =
         by-answer t l
         (λ u p.
-        let v : Sound u = sound-step t u (eventOf l) s p in
+        let v : Sound u = sound-step t u (eventOf l) s (line-event t u l p) in
         let b = sound-bounded u v in
-        let n : t .lines < length out = omega (arith, b .lines, step-lines t u (eventOf l) p) in
+        let n : t .lines < length out = omega (arith, b .lines, line-lines t u l p) in
         let m : 256 ≤ length (set out (t .lines) (verdictByte (verdict u))) = omega (arith, length-set out (t .lines) (verdictByte (verdict u))) in
         printed-taken t l ls out s u p n (printed ls u (set out (t .lines) (verdictByte (verdict u))) v m))
         (λ c p. printed-refused t l ls out s c p)

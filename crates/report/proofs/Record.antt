@@ -11,9 +11,9 @@ use Rattle.trace.specs.declared.Record.{Record}
 use Rattle.trace.specs.Trace.{Trace}
 use Rattle.trace.specs.Record.{recordOf}
 use Rattle.reading.specs.declared.LogRead.{LogRead}
-use Rattle.monitor.specs.declared.Tally.{Tally}
-use Rattle.monitor.specs.Tally.{tallyOf, CountsRecord}
-use Rattle.monitor.proofs.Tallies.{finished-most}
+use Rattle.tallies.specs.declared.Tally.{Tally}
+use Rattle.tallies.specs.Tally.{tallyOf, CountsRecord}
+use Rattle.tallies.proofs.Tallies.{finished-most}
 use Rattle.report.specs.Text.{tallyText}
 use Rattle.report.specs.Writing.{Writes, WritesFew, endingText, unread?, linesTo, failsTo, recordText, Printable, OfTrace, PrintsRecord}
 use Rattle.report.proofs.Writing.{then, writes-same}

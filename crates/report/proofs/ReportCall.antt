@@ -11,6 +11,7 @@ use Rattle.lines.specs.Log.{linesOf}
 use Rattle.trace.specs.Trace.{Trace, noTrace}
 use Rattle.trace.specs.Record.{recordOf, Bounded}
 use Rattle.trace.proofs.Bounds.{sound-none, sound-bounded}
+use Rattle.pairs.specs.Grid.{workSize}
 use Rattle.rules.specs.declared.Rule.{Rule}
 use Rattle.rules.specs.declared.RuleRead.{RuleRead}
 use Rattle.rules.specs.declared.RuleRead.the-variants as RuleRead
@@ -19,7 +20,7 @@ use Rattle.rules.proofs.Rules.{reads-rule}
 use Rattle.reading.specs.declared.LogRead.{LogRead}
 use Rattle.monitor.specs.Log.{notRead, linesFrom, logOf, ChecksLog}
 use Rattle.monitor.specs.Repeated.{Result as Checked}
-use Rattle.monitor.proofs.LineCall.{with-refused, with-taken}
+use Rattle.single.proofs.LineCall.{with-refused, with-taken}
 use Rattle.report.specs.declared.Reported.the-variants.{Length, Refused}
 use Rattle.report.specs.Text.{refusedText, textFrom, reportText}
 use Rattle.report.specs.Writing.{put, linesTo, failsTo, recordText, LineLow, OfTrace, PrintsRecord}
@@ -35,7 +36,7 @@ pub record Given (file log : List ℕ) (z : Checked) : Type 0 where
   pub line : LineLow (z .0 .ending)
   pub text : recordText trace (z .0 .ending) (z .2) ≡ reportText file log
 
-module _ (file log w out : List ℕ) (long : 16384 ≤ length w) (room : 256 ≤ length out) where
+module _ (file log w out : List ℕ) (long : workSize ≤ length w) (room : 256 ≤ length out) where
   given-unruled : (n : ℕ) → ruleOf file ≡ RuleRead.Refused n → Given file log (notRead n, w, out)
   unfolding recordText linesTo reportText
   given-unruled n e =
@@ -61,11 +62,11 @@ module _ (file log w out : List ℕ) (long : 16384 ≤ length w) (room : 256 ≤
 
   log-unruled : (n : ℕ) → ruleOf file ≡ RuleRead.Refused n → logOf file log w out ≡ (notRead n, w, out)
   unfolding logOf
-  log-unruled n e = simp (le-ltb (length w) 16384 long, le-ltb (length out) 256 room) (with-refused (ruleOf file) n _ _ e)
+  log-unruled n e = simp (le-ltb (length w) workSize long, le-ltb (length out) 256 room) (with-refused (ruleOf file) n _ _ e)
 
   log-ruled : (x : Rule) → ruleOf file ≡ RuleRead.Rule x → logOf file log w out ≡ linesFrom file x noTrace (linesOf log) w out
   unfolding logOf
-  log-ruled x e = simp (le-ltb (length w) 16384 long, le-ltb (length out) 256 room) (with-taken (ruleOf file) x _ _ e)
+  log-ruled x e = simp (le-ltb (length w) workSize long, le-ltb (length out) 256 room) (with-taken (ruleOf file) x _ _ e)
 
   pub given : Given file log (logOf file log w out)
   given = by-rule (ruleOf file) refl
@@ -106,7 +107,7 @@ module _ (file log w out : List ℕ) (long : 16384 ≤ length w) (room : 256 ≤
       same-answer : _≡_ {A = Result} (Length n, v, o, text′) (reportOf file log w out text)
       unfolding reportOf
       same-answer =
-          simp (le-ltb (length w) 16384 long, le-ltb (length out) 256 room, le-ltb (length text) 2048 big)
+          simp (le-ltb (length w) workSize long, le-ltb (length out) 256 room, le-ltb (length text) 2048 big)
           (λ i. (Length (wrote .count i), k .answer i .1, k .answer i .2, wrote .bytes i))
 
       -- the bytes of the report
@@ -141,14 +142,14 @@ module _ (file log w out text : List ℕ) where
         meaning = λ n x q r. no-length n q;
       }
 
-  pub short-work : length w < 16384 → Reports file log w out text (Refused 20) w out text
+  pub short-work : length w < workSize → Reports file log w out text (Refused 20) w out text
   unfolding reportOf
-  short-work h = report-refused (simp (lt-ltb (length w) 16384 h))
+  short-work h = report-refused (simp (lt-ltb (length w) workSize h))
 
-  pub short-verdicts : 16384 ≤ length w → length out < 256 → Reports file log w out text (Refused 20) w out text
+  pub short-verdicts : workSize ≤ length w → length out < 256 → Reports file log w out text (Refused 20) w out text
   unfolding reportOf
-  short-verdicts l h = report-refused (simp (le-ltb (length w) 16384 l, lt-ltb (length out) 256 h))
+  short-verdicts l h = report-refused (simp (le-ltb (length w) workSize l, lt-ltb (length out) 256 h))
 
-  pub short-text : 16384 ≤ length w → 256 ≤ length out → length text < 2048 → Reports file log w out text (Refused 20) w out text
+  pub short-text : workSize ≤ length w → 256 ≤ length out → length text < 2048 → Reports file log w out text (Refused 20) w out text
   unfolding reportOf
-  short-text l m h = report-refused (simp (le-ltb (length w) 16384 l, le-ltb (length out) 256 m, lt-ltb (length text) 2048 h))
+  short-text l m h = report-refused (simp (le-ltb (length w) workSize l, le-ltb (length out) 256 m, lt-ltb (length text) 2048 h))

@@ -5,16 +5,16 @@ use mathlib.Core.Bool.{cond, _||_}
 use mathlib.Core.List.{List, [], _∷_, _++_}
 use lib.Dec.{ltb}
 use lib.ListN.{length, getD, take, drop}
-use Rattle.lines.specs.Line.{eventOf}
 use Rattle.lines.specs.Log.{linesOf}
-use Rattle.trace.specs.Trace.{Trace, next, refused, noTrace, apply, steps, Accepted}
+use Rattle.trace.specs.Trace.{Trace, next, refused, noTrace, steps, Accepted, step}
+use Rattle.pairs.specs.Grid.{workSize}
 use Rattle.rules.specs.declared.Rule.{Rule}
 use Rattle.rules.specs.declared.RuleRead.the-variants as RuleRead
 use Rattle.rules.specs.Rules.{ruleOf, formulaOf}
 use Rattle.logic.specs.declared.Verdict.{Verdict}
 use Rattle.logic.specs.Verdict.{Says}
 use Rattle.monitor.specs.Log.{logOf}
-use Rattle.monitor.specs.Tally.{tallyOf, failingFrom, tallyAfter}
+use Rattle.tallies.specs.Tally.{tallyOf, failingFrom, tallyAfter}
 use Rattle.report.specs.declared.Reported.{Reported}
 use Rattle.report.specs.declared.Reported.the-variants.{Length, Refused}
 use Rattle.report.specs.Text.{lineText, refusedText, tallyText, reportText}
@@ -26,7 +26,7 @@ Result = Reported × List ℕ × List ℕ × List ℕ
 -- "20 a lent buffer shorter than stated": for any of the three, and then nothing is written
 unfoldable pub reportOf : List ℕ → List ℕ → List ℕ → List ℕ → List ℕ → Result
 reportOf file log w out text =
-    cond (ltb (length w) 16384 || (ltb (length out) 256 || ltb (length text) 2048)) (Refused 20, w, out, text)
+    cond (ltb (length w) workSize || (ltb (length out) 256 || ltb (length text) 2048)) (Refused 20, w, out, text)
     (Length (length (reportText file log)), logOf file log w out .1, logOf file log w out .2, reportText file log ++ drop (length (reportText file log)) text)
 
 -- ── what the text says of the log ──
@@ -44,7 +44,7 @@ pub record TextMeans (file : List ℕ) (x : Rule) (log text : List ℕ) : Type 0
   -- "for a refused line its number, a space, `R` and the refusal joined (as `3 R15`), and no later line. Last comes `T`": after the
   -- text of the lines before it, that line and the tally of the lines before it, and nothing else
   pub stops : (before : List (List ℕ)) (last : List ℕ) (after : List (List ℕ)) (t : Trace) (c : ℕ) → linesOf log ≡ before ++ (last ∷ after)
-      → steps (next noTrace) before ≡ next t → apply t (eventOf last) ≡ refused c
+      → steps (next noTrace) before ≡ next t → step (next t) last ≡ refused c
       → drop (length before) (linesOf text) ≡ refusedText (length before + 1) c ∷ tallyText (tallyOf t (failingFrom file x noTrace before)) ∷ []
   -- every line is accepted: after their text the tally of the log, and nothing else
   pub whole : (t : Trace) → Accepted log t → drop (length (linesOf log)) (linesOf text) ≡ tallyText (tallyAfter file x log t) ∷ []

@@ -3,19 +3,18 @@
 -- before each. Numbers are decimal, and every line ends in LF. A refused rule prints `0 R` and the number joined, and nothing else."
 use Prim.Native.Nat.{ℕ, _+_}
 use mathlib.Core.List.{List, [], _∷_, _++_}
-use Rattle.lines.specs.Line.{eventOf}
 use Rattle.lines.specs.Log.{linesOf}
 use Rattle.lines.specs.Render.{digits}
-use Rattle.trace.specs.Trace.{Trace, noTrace, apply}
+use Rattle.trace.specs.Trace.{Trace, noTrace, step, next}
 use Rattle.rules.specs.declared.Rule.{Rule}
 use Rattle.rules.specs.Rules.{ruleOf, formulaOf}
 use Rattle.logic.specs.declared.Verdict.{Verdict}
 use Rattle.logic.specs.declared.Verdict.the-variants.{Holds, Fails}
 use Rattle.logic.specs.Verdict.{verdictOf}
-use Rattle.monitor.specs.declared.Tally.{Tally}
-use Rattle.monitor.specs.Line.{withRule}
+use Rattle.tallies.specs.declared.Tally.{Tally}
+use Rattle.single.specs.Line.{withRule}
 use Rattle.reading.specs.Reading.{byAnswer}
-use Rattle.monitor.specs.Tally.{tallyOf, failed}
+use Rattle.tallies.specs.Tally.{tallyOf, failed}
 
 -- A number of at most three digits, without leading zeros: right for 0 to 999. Every number that is printed is at most 257, the
 -- number of a line after 256 accepted ones.
@@ -51,7 +50,7 @@ tallyText y =
 unfoldable pub textFrom : List ℕ → Rule → Trace → ℕ → List (List ℕ) → List ℕ
 textFrom file x t n [] = tallyText (tallyOf t n)
 textFrom file x t n (l ∷ ls) =
-    byAnswer (apply t (eventOf l))
+    byAnswer (step (next t) l)
     (λ u. lineText (u .lines) (verdictOf u (formulaOf file x)) ++ textFrom file x u (n + failed (verdictOf u (formulaOf file x))) ls)
     (λ c. refusedText (t .lines + 1) c ++ tallyText (tallyOf t n))
 

@@ -1,4 +1,4 @@
--- Writing text into a lent buffer, piece by piece, and the text of a record with its verdict bytes.
+-- How the code works, not what it means. Writing text into a lent buffer, piece by piece, and the text of a record with its verdict bytes.
 use Prim.Native.Nat.{ℕ, zero, suc, _+_, _≤_}
 use mathlib.Core.Path.{_≡_}
 use mathlib.Core.Bool.{Bool, false, cond}
@@ -10,8 +10,8 @@ use Rattle.trace.specs.Record.{recordOf, Bounded}
 use Rattle.reading.specs.declared.Ending.{Ending}
 use Rattle.reading.specs.declared.Ending.the-variants.{Read, Refused}
 use Rattle.reading.specs.declared.LogRead.{LogRead}
-use Rattle.monitor.specs.declared.Tally.{Tally}
-use Rattle.monitor.specs.Tally.{tallyOf}
+use Rattle.tallies.specs.declared.Tally.{Tally}
+use Rattle.tallies.specs.Tally.{tallyOf}
 use Rattle.report.specs.Text.{letterLine, refusedText, tallyText}
 
 -- a buffer with s in it from the place p on

@@ -7,14 +7,12 @@ ghost use lib.ListN.{length};
 ghost use Rattle.report.specs.Writing.{byteFails, linesTo, failsTo, OfTrace, Writes, PrintsRecord};
 ghost use Rattle.report.specs.Report.{Reports};
 use monitor::LogRead;
+use pairs::PAIR_BYTES;
 
 mod text;
 
 // The shortest text buffer that is taken. The longest report has 256 lines of accepted lines, one of a refusal and one of a tally.
 pub const REPORT_BYTES: usize = 2048;
-
-// The pair bytes at the front of a work area.
-const PAIR_BYTES: usize = 16384;
 
 // The bytes of a verdict buffer: one for each line that can be accepted.
 const VERDICT_BYTES: usize = 256;

@@ -1,10 +1,67 @@
 // Prints the report of rule files and logs, with its length and how many bytes after it are as before.
 //
 // A work area holds 7s before the call, a verdict buffer 9s, a text buffer dots. Where the call is refused, how many of each are left.
+//
+// A case is a kind and a text (`test_cases`): `r` gives the rule file, `b` how many bytes of the work area, the verdict buffer and the
+// text buffer are lent, of 16400, 260 and 2100; `+` gives lines of a log, `p` its last lines and has the report printed; `=` writes its text.
+use libc::STDIN_FILENO;
 use report::Reported;
 
-mod long;
-mod show;
+// How many bytes of the rule file, the log, the work area, the verdict buffer and the text buffer are in use.
+struct Sizes {
+    rule: usize,
+    log: usize,
+    work: usize,
+    verdicts: usize,
+    text: usize,
+}
+
+// 1 if two bytes are the same.
+fn same(a: u8, b: u8) -> u64 {
+    if a == b {
+        return 1;
+    }
+    0
+}
+
+// How many bytes are b.
+fn count(bytes: &[u8], b: u8) -> u64 {
+    let mut n: u64 = 0;
+    let mut i: usize = 0;
+    while i < bytes.len() {
+        n = std::num::wrapping_add_u64(n, same(bytes[i], b));
+        i += 1;
+    }
+    n
+}
+
+// Writes the report, its length, and how many dots follow it.
+fn front(text: &[u8], n: usize) {
+    if n <= text.len() {
+        test_text::write(&text[0..n]);
+        test_text::write(b"length ");
+        test_text::write_number(n as u64);
+        test_text::write(b", then ");
+        test_text::write_number(count(&text[n..], b'.'));
+        test_text::write(b" dots\n");
+    }
+}
+
+// Writes the answer.
+fn show(a: Reported, work: &[u8], verdicts: &[u8], text: &[u8]) {
+    match a {
+        Reported::Length(n) => front(text, n),
+        Reported::Refused(n) => {
+            test_text::write(b"refused ");
+            test_text::write_number(n as u64);
+            test_text::write(b", left ");
+            test_text::write_next(count(work, 7));
+            test_text::write_next(count(verdicts, 9));
+            test_text::write_number(count(text, b'.'));
+            test_text::write(b"\n");
+        }
+    }
+}
 
 // The report with the first w, v and t bytes of three buffers.
 fn report_in(
@@ -33,107 +90,96 @@ fn report_in(
     Reported::Refused(0)
 }
 
-// A rule file and a log, with buffers of w, v and t bytes.
-fn print_in(file: &[u8], log: &[u8], w: usize, v: usize, t: usize) {
+// A rule file and a log.
+fn print(s: Sizes, file: &[u8], log: &[u8]) {
     let mut work = [7u8; 16400];
     let mut verdicts = [9u8; 260];
     let mut text = [b'.'; 2100];
-    let a = report_in(file, log, &mut work, w, &mut verdicts, v, &mut text, t);
-    show::reported(a, &work, &verdicts, &text);
-}
-
-fn print(file: &[u8], log: &[u8]) {
-    print_in(file, log, 16400, 260, 2100);
-}
-
-// "no EVENING includes a TEST"
-fn no_evening_includes_test(log: &[u8]) {
-    print(
-        b"RUL\x01\x00\x02\x07EVENING\x04TEST\x08\x04\x00\x00\x04\x01\x01\x01\x00\x01\x07\x00\x01\x01\x02\x03\x03\x01\x04\x03\x00\x05\x02\x06\x00",
+    let a = report_in(
+        file,
         log,
+        &mut work,
+        s.work,
+        &mut verdicts,
+        s.verdicts,
+        &mut text,
+        s.text,
     );
+    show(a, &work, &verdicts, &text);
 }
 
-// "some A, same A A"
-fn some_same_as_itself(log: &[u8]) {
-    print(b"RUL\x01\x00\x00\x02\x08\x00\x00\x03\x00\x00", log);
+// The first bytes of a rule file and of a log.
+fn print_first(s: Sizes, file: &[u8], log: &[u8]) {
+    let n = s.rule;
+    let m = s.log;
+    if n <= file.len() {
+        if m <= log.len() {
+            print(s, &file[0..n], &log[0..m]);
+        }
+    }
 }
 
-fn paper() {
-    show::write(b"P1\n");
-    no_evening_includes_test(b"B 7 EVENING\nB 9 TEST\nE 9\nE 7\n");
-    show::write(b"P9\n");
-    no_evening_includes_test(b"B 1 TEST\nE 1\n");
-    show::write(b"P10\n");
-    some_same_as_itself(b"B 1\nE 1\n");
+// How many bytes a log has after more of them.
+fn longer(log: &mut [u8], n: usize, text: &[u8]) -> usize {
+    if n <= log.len() {
+        return test_cases::append(text, log, n);
+    }
+    n
 }
 
-// No lines; a refused line 1; a refused line with lines before and after it, and open runs; a last line without its LF.
-fn ends() {
-    show::write(b"no lines\n");
-    some_same_as_itself(b"");
-    show::write(b"refused lines\n");
-    some_same_as_itself(b"B 1 \nB 1\n");
-    no_evening_includes_test(b"B 1\nE 1\nB 1\nB 2\n");
-    some_same_as_itself(b"B 1 X\nB 2\nE 1\nE 3\nE 2\n");
-    no_evening_includes_test(b"B 1\nE 1");
+// The sizes after a case.
+fn after(s: Sizes, file: &mut [u8], log: &mut [u8], kind: u8, text: &[u8]) -> Sizes {
+    let mut q = s;
+    if kind == b'=' {
+        test_text::write(text);
+        test_text::write(b"\n");
+        return q;
+    }
+    if kind == b'r' {
+        q.rule = test_cases::bytes(text, file);
+        return q;
+    }
+    if kind == b'b' {
+        q.work = test_cases::size(text, 0);
+        q.verdicts = test_cases::size(text, 1);
+        q.text = test_cases::size(text, 2);
+        return q;
+    }
+    if kind == b'+' {
+        q.log = longer(log, s.log, text);
+        return q;
+    }
+    if kind == b'p' {
+        q.log = longer(log, s.log, text);
+        print_first(q, file, log);
+        q.log = 0;
+        return q;
+    }
+    q
 }
 
-// A refused rule, with a log that is not looked at.
-fn rule(file: &[u8]) {
-    print(file, b"B 1\nE 1\nX\n");
-}
-
-fn rules() {
-    show::write(b"rules 1 to 10\n");
-    rule(b"");
-    rule(b"RUX");
-    rule(b"RUL\x02\x00");
-    rule(b"RUL\x01\x00\x11");
-    rule(b"RUL\x01\x00\x01\x00");
-    rule(b"RUL\x01\x00\x00\x01\x09\x00\x00");
-    rule(b"RUL\x01\x00\x00\x01\x08\x00\x00\x00");
-    rule(b"RUL\x01\x00\x00\x02\x08\x00\x00\x01\x00\x00");
-    rule(b"RUL\x01\x00\x00\x01\x08\x00\x00");
-    rule(
-        b"RUL\x01\x00\x00\x06\x08\x00\x00\x03\x00\x00\x03\x00\x01\x03\x00\x02\x03\x00\x03\x03\x00\x04",
-    );
-}
-
-// P10's rule and its first line, with buffers that are just long enough, and with one that is a byte shorter.
-fn sized(w: usize, v: usize, t: usize) {
-    print_in(
-        b"RUL\x01\x00\x00\x02\x08\x00\x00\x03\x00\x00",
-        b"B 1\n",
-        w,
-        v,
-        t,
-    );
-}
-
-fn buffers() {
-    show::write(b"just long enough, and a byte shorter\n");
-    sized(16384, 256, 2048);
-    sized(16383, 256, 2048);
-    sized(16384, 255, 2048);
-    sized(16384, 256, 2047);
-    print_in(b"", b"", 16383, 255, 2047);
-}
-
-// "some A, some B: A overlaps B" over the longest log, with a line after it.
-fn longest() {
-    show::write(b"128 runs, and one more\n");
-    let log = long::log();
-    print(
-        b"RUL\x01\x00\x00\x03\x06\x00\x01\x03\x01\x00\x03\x00\x01",
-        &log,
-    );
+fn run(input: &[u8], file: &mut [u8], log: &mut [u8]) {
+    let mut s = Sizes {
+        rule: 0,
+        log: 0,
+        work: 16400,
+        verdicts: 260,
+        text: 2100,
+    };
+    let mut at: usize = 0;
+    while at < input.len() {
+        let c = test_cases::case_at(input, at);
+        let start = c.start;
+        let end = c.end;
+        s = after(s, file, log, c.kind, &input[start..end]);
+        at = c.next;
+    }
 }
 
 fn main() {
-    paper();
-    ends();
-    rules();
-    buffers();
-    longest();
+    let mut input = io::large_buffer();
+    let mut file = [0u8; 640];
+    let mut log = [0u8; 2048];
+    let n = io::read_full(STDIN_FILENO, &mut input);
+    run(&input[..n], &mut file, &mut log);
 }

@@ -1,15 +1,14 @@
 -- The tests by sets are the relations by positions: the given run goes from line s to line f, the other from line t to line g.
 use Prim.Native.Nat.{ℕ, _+_, _<_}
 use mathlib.Core.Path.{_≡_, refl, sym, ap, ap₂, _∙_}
-use mathlib.Core.Bool.{Bool, true, false, not, _&&_}
+use mathlib.Core.Bool.{Bool, true, false, not, _&&_, and-true, and-false}
 use native.Mathlib.Omega.{arith}
 use borrow.Author.Tests.{ltb-true, lt-ltb, le-ltb, eq-eqb, ne-eqb}
 use lib.Dec.{eqb, ltb}
-use Rattle.lists.proofs.Cases.{either-lt, either-eq}
+use Rattle.lists.proofs.Cases.{either-lt, either-eq, and-left, and-right}
 use Rattle.relations.specs.Relation.{rising?}
 use Rattle.logic.specs.Shown.{sameNumber}
 use Rattle.rows.specs.Values.{less, holds}
-use Rattle.rows.proofs.Stored.{and-false, and-true}
 
 pub later : (a b : ℕ) → not (ltb a (b + 1)) ≡ ltb b a
 later a b = either-lt b a (λ l. rw (lt-ltb b a l, le-ltb a (b + 1) (omega arith)) refl) (λ l. rw (le-ltb b a l, lt-ltb a (b + 1) (omega arith)) refl)
@@ -22,14 +21,6 @@ swap false b = sym (and-false b)
 with-implied : (x d : Bool) → (x ≡ true → d ≡ true) → x ≡ (d && x)
 with-implied true d h = sym (and-true d ∙ h refl)
 with-implied false d h = sym (and-false d)
-
-first-true : (a b : Bool) → (a && b) ≡ true → a ≡ true
-first-true true b e = refl
-first-true false b e = e
-
-second-true : (a b : Bool) → (a && b) ≡ true → b ≡ true
-second-true true b e = e
-second-true false b e = absurd (let z : _≡_ {A = ℕ} 0 1 = cc in omega arith)
 
 regroup : (a b c : Bool) → ((a && b) && c) ≡ (b && (a && c))
 regroup true true c = refl
@@ -54,7 +45,7 @@ module _ (s f t g : ℕ) (begins : s < f) (other : 0 < g → t < g) where
   unfolding holds
   overlaps-first =
       ap₂ (λ (x y : Bool). (ltb t f && x) && y) (later t s) (later g f) ∙ regroup (ltb t f) (ltb s t) (ltb f g)
-      ∙ with-implied (rising? s t f g) (ltb 0 g) (λ e. past f (second-true (ltb t f) (ltb f g) (second-true (ltb s t) (ltb t f && ltb f g) e)))
+      ∙ with-implied (rising? s t f g) (ltb 0 g) (λ e. past f (and-right (ltb t f) (ltb f g) (and-right (ltb s t) (ltb t f && ltb f g) e)))
 
   -- a finished run starts before it finishes
   forward-added : (x y : Bool) → ((x && y) && ltb 0 g) ≡ (ltb 0 g && (y && (ltb t g && x)))
@@ -74,13 +65,13 @@ module _ (s f t g : ℕ) (begins : s < f) (other : 0 < g → t < g) where
   overlaps-second =
       ap (λ (x : Bool). (ltb t s && ltb g f) && x) (later g s)
       ∙ turn (ltb t s) (ltb g f) (ltb s g)
-      ∙ with-implied (rising? t s g f) (ltb 0 g) (λ e. past s (first-true (ltb s g) (ltb g f) (second-true (ltb t s) (ltb s g && ltb g f) e)))
+      ∙ with-implied (rising? t s g f) (ltb 0 g) (λ e. past s (and-left (ltb s g) (ltb g f) (and-right (ltb t s) (ltb s g && ltb g f) e)))
 
   pub includes-second : (ltb t s && not (ltb g (f + 1))) ≡ (ltb 0 g && holds 2 t g s f)
   unfolding holds
   includes-second =
       rw (lt-ltb s f begins)
-      (ap (λ (x : Bool). ltb t s && x) (later g f) ∙ with-implied (ltb t s && ltb f g) (ltb 0 g) (λ e. past f (second-true (ltb t s) (ltb f g) e)))
+      (ap (λ (x : Bool). ltb t s && x) (later g f) ∙ with-implied (ltb t s && ltb f g) (ltb 0 g) (λ e. past f (and-right (ltb t s) (ltb f g) e)))
 
 -- the label of a rank is that of another
 pub label-first : (m n : ℕ) → (not (eqb n 0) && eqb m n) ≡ sameNumber n m

@@ -1,7 +1,7 @@
 -- The tests by sets are the values of the rows.
 use Prim.Native.Nat.{ℕ, _+_, _-_, _/_, _%_, _<_, _≤_}
 use mathlib.Core.Path.{_≡_, refl, sym, ap, ap₂, _∙_}
-use mathlib.Core.Bool.{Bool, false, not, _&&_}
+use mathlib.Core.Bool.{Bool, false, not, _&&_, and-false}
 use mathlib.Core.List.{List}
 use native.Mathlib.Omega.{arith}
 use borrow.Author.Tests.{lt-ltb, le-ltb, eq-eqb, ne-eqb}
@@ -10,10 +10,8 @@ use lib.ListN.{getD}
 use Rattle.lists.proofs.Cases.{either-lt, either-eq}
 use Rattle.sets.specs.Sets.{mem}
 use Rattle.sets.specs.declared.RunSet.{RunSet}
-use Rattle.moments.specs.Rows.{row}
-use Rattle.rows.specs.Stored.{Stored}
+use Rattle.set_table.specs.Rows.{row, Stored}
 use Rattle.rows.specs.Values.{secondsTest, firstsTest, listedTest, holds, pairValue, givenValue, listedValue, rowValue, Wanted, Ranks, Tables, Filled}
-use Rattle.rows.proofs.Stored.{and-false}
 use Rattle.rows.proofs.Tests.{less-same, minus-same}
 use Rattle.rows.proofs.Between.{before-first, overlaps-first, includes-first, before-second, overlaps-second, includes-second, label-first, label-second}
 
@@ -42,10 +40,10 @@ module _ (start finish number begun ended labelled : List ℕ) (R : Ranks start 
     low-f : f ≤ 256
     low-f = R .finishes .low i low-i
 
-    begun-at : (l : ℕ) → l ≤ 257 → mem (row begun l) j ≡ ltb t l
+    begun-at : (l : ℕ) → l < 258 → mem (row begun l) j ≡ ltb t l
     begun-at l h = T .begun-are l j h low-j
 
-    ended-at : (l : ℕ) → l ≤ 257 → mem (row ended l) j ≡ ltb g l
+    ended-at : (l : ℕ) → l < 258 → mem (row ended l) j ≡ ltb g l
     ended-at l h = T .ended-are l j h low-j
 
     seconds-hold : secondsTest k s f begun ended j ≡ (ltb 0 g && holds k s f t g)

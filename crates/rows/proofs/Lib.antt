@@ -1,4 +1,3 @@
-pub mod Stored
 pub mod Tests
 pub mod Between
 pub mod Given

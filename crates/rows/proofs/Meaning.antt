@@ -10,29 +10,30 @@ use lib.Dec.{eqb}
 use lib.ListN.{length, getD, List·getD-eq-default}
 use Rattle.lists.proofs.Lists.{getD-pad}
 use Rattle.lists.proofs.Cases.{either-lt, either-eq}
+use Rattle.lists.proofs.Tells.{agree}
 use Rattle.labels.specs.Label.{labelOf}
 use Rattle.labels.specs.Table.{indexOf}
 use Rattle.trace.specs.declared.Run.{Run}
 use Rattle.trace.specs.declared.RunTable.{RunTable}
-use Rattle.trace.specs.Trace.{Trace, noRun, runAt, start, finish, Accepted}
+use Rattle.trace.specs.Trace.{Trace, noRun, runAt, beginLine, endLine, start, finish, Accepted}
 use Rattle.trace.specs.Record.{recordOf}
 use Rattle.trace.proofs.Accepted.{Orderly, accepted-orderly}
 use Rattle.trace.proofs.Bounds.{accepted-bounded}
 use Rattle.relations.specs.Relation as Relation
-use Rattle.rules.specs.Formula.{has, same}
+use Rattle.rules.specs.Formula.{same, has, pair}
 use Rattle.rules.specs.Parts.{labelCount}
 use Rattle.rules.specs.Labels.{labelBytes}
 use Rattle.logic.specs.Satisfies.{Satisfies}
 use Rattle.logic.specs.Model.{eval, numberAt, hasLabel?, sameLabel?}
 use Rattle.logic.specs.Shown.{sameNumber, numberFor}
-use Rattle.logic.proofs.Decides.{agree, eval-decides}
+use Rattle.logic.proofs.Decides.{eval-decides}
 use Rattle.logic.proofs.LabelSays.{accepted-written, label-says, same-says}
 use Rattle.order.specs.declared.Order.{Order}
 use Rattle.order.specs.Order.{orderTo, finishOrder}
 use Rattle.order.specs.Marks.{Holds}
 use Rattle.order.proofs.Counted.{order-few}
 use Rattle.order.proofs.Ranks.{ranked-finished}
-use Rattle.moments.specs.Rows.{pairOf, RowsOf}
+use Rattle.matrix.specs.Rows.{pairOf, RowsOf}
 use Rattle.rows.specs.Values.{holds, pairValue, givenValue, listedValue, rowValue, Wanted, Filled}
 use Rattle.rows.specs.ByRank.{rankedTo, OrderFits, ByRank, RowsFilled}
 use Rattle.rows.specs.RankModel.{rankRun, rankModel}
@@ -86,10 +87,10 @@ module _ (log : List ℕ) (s : Trace) (a : Accepted log s) (o : Order) (H : Hold
             let e : getD (o .run) i 0 ≡ getD (finishOrder s) i 0 = H .run i in
             let p = ranked-finished log s a i (omega (arith, H .count)) in
             omega (arith, p .low, g .runs);
-        start-low = run-keeps (λ r. start r ≤ 256) (omega arith) (λ k l. omega (arith, g .within k l, g .lines));
-        finish-low = run-keeps (λ r. finish r ≤ 256) (omega arith) (λ k l. omega (arith, g .within k l, g .lines));
+        start-low = run-keeps (λ r. beginLine r ≤ 256) (omega arith) (λ k l. omega (arith, g .within k l, g .lines));
+        finish-low = run-keeps (λ r. endLine r ≤ 256) (omega arith) (λ k l. omega (arith, g .within k l, g .lines));
         label-low = run-keeps (λ r. r .label .0 ≤ 64) (omega arith) (λ k l. omega (arith, g .label-numbers k l, g .labels));
-        forward = run-keeps (λ r. 0 < finish r → start r < finish r) (λ u. omega arith) (λ k l. g .forward k);
+        forward = run-keeps (λ r. 0 < endLine r → beginLine r < endLine r) (λ u. omega arith) (λ k l. g .forward k);
       }
 
   -- ── labels ──
@@ -101,15 +102,15 @@ module _ (log : List ℕ) (s : Trace) (a : Accepted log s) (o : Order) (H : Hold
   same-means : (j k : ℕ) → sameNumber (numberAt s j) (numberAt s k) ≡ sameLabel? s j k
   unfolding Satisfies eval
   same-means j k =
-      agree _ _ (same-says s orderly (accepted-written log s a) (accepted-bounded log s a .distinct) j k) (eval-decides s (λ v. cond (eqb v 0) j k) (same 0 1))
+      agree _ _ (same-says s orderly (accepted-written log s a) (accepted-bounded log s a .distinct) j k) (eval-decides s (λ v. cond (eqb v 0) j k) (pair same 0 1))
 
   -- ── the values of the rows ──
   module _ (ss fs ns : List ℕ) (d : ByRank (recordOf s .runs) o (o .count) ss fs ns) where
-    start-is : (i : ℕ) → getD ss i 0 ≡ start (runAt s (rankRun s i))
-    start-is i = d .start-at i ∙ ap start (ranked-run i)
+    start-is : (i : ℕ) → getD ss i 0 ≡ start s (rankRun s i)
+    start-is i = d .start-at i ∙ ap beginLine (ranked-run i)
 
-    finish-is : (i : ℕ) → getD fs i 0 ≡ finish (runAt s (rankRun s i))
-    finish-is i = d .finish-at i ∙ ap finish (ranked-run i)
+    finish-is : (i : ℕ) → getD fs i 0 ≡ finish s (rankRun s i)
+    finish-is i = d .finish-at i ∙ ap endLine (ranked-run i)
 
     number-is : (i : ℕ) → getD ns i 0 ≡ numberAt s (rankRun s i)
     number-is i = d .number-at i ∙ ap (λ (r : Run). r .label .0) (ranked-run i)

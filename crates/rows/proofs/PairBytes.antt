@@ -10,7 +10,8 @@ use Rattle.trace.specs.Trace.{Trace, Accepted}
 use Rattle.pairs.specs.Pairs.{pairByte, workOf}
 use Rattle.pairs.proofs.Grid.{getD-gridIn}
 use Rattle.logic.proofs.PairSays.{before-byte, overlaps-byte, includes-byte}
-use Rattle.moments.specs.Rows.{row, pairOf, RowsOf}
+use Rattle.set_table.specs.Rows.{row}
+use Rattle.matrix.specs.Rows.{pairOf, RowsOf}
 use Rattle.rows.specs.RankModel.{rankRun, rankModel}
 
 module _ (log : List ℕ) (t : Trace) (a : Accepted log t) (i j : ℕ) where

@@ -7,12 +7,12 @@ use borrow.Author.Tests.{lt-ltb, le-ltb}
 use lib.ListN.{length, getD, set, replicate}
 use lib.Seq.{getD-set-same, getD-set-other}
 use Rattle.lists.proofs.Cases.{either-lt, either-eq}
+use Rattle.lists.proofs.Lists.{zeros}
 use Rattle.trace.specs.declared.Run.{Run}
 use Rattle.trace.specs.declared.RunTable.{RunTable}
-use Rattle.trace.specs.Trace.{noRun, start, finish}
+use Rattle.trace.specs.Trace.{noRun, beginLine, endLine}
 use Rattle.order.specs.declared.Order.{Order}
 use Rattle.rows.specs.Values.{Ranks}
-use Rattle.rows.proofs.Stored.{zeros}
 use Rattle.rows.specs.ByRank.{rankedTo, OrderFits, ByRank}
 
 module _ (t : RunTable) (o : Order) where
@@ -43,14 +43,14 @@ module _ (t : RunTable) (o : Order) where
       (λ l. ap field (ranked-out k i l ∙ sym (ranked-out (k + 1) i (omega arith)))))
 
   pub by-rank-none : ByRank t o 0 (replicate 128 0) (replicate 128 0) (replicate 128 0)
-  by-rank-none = record { start-at = value-none start refl; finish-at = value-none finish refl; number-at = value-none (λ r. r .label .0) refl }
+  by-rank-none = record { start-at = value-none beginLine refl; finish-at = value-none endLine refl; number-at = value-none (λ r. r .label .0) refl }
 
-  pub by-rank-more : (ss fs ns : List ℕ) (k x y z : ℕ) → k < length ss → k < length fs → k < length ns → x ≡ start (runOf k) → y ≡ finish (runOf k)
+  pub by-rank-more : (ss fs ns : List ℕ) (k x y z : ℕ) → k < length ss → k < length fs → k < length ns → x ≡ beginLine (runOf k) → y ≡ endLine (runOf k)
       → z ≡ runOf k .label .0 → ByRank t o k ss fs ns → ByRank t o (k + 1) (set ss k x) (set fs k y) (set ns k z)
   by-rank-more ss fs ns k x y z ls lf ln ex ey ez d =
       record {
-        start-at = value-more start ss k x ls (d .start-at) ex;
-        finish-at = value-more finish fs k y lf (d .finish-at) ey;
+        start-at = value-more beginLine ss k x ls (d .start-at) ex;
+        finish-at = value-more endLine fs k y lf (d .finish-at) ey;
         number-at = value-more (λ r. r .label .0) ns k z ln (d .number-at) ez;
       }
 
@@ -62,9 +62,9 @@ module _ (t : RunTable) (o : Order) where
       → Ranks ss fs ns
   by-rank-fits F ss fs ns k ls lf ln d =
       record {
-        starts = record { long = omega arith; low = λ i h. rw (d .start-at i) (ranked-keeps (λ r. start r ≤ 256) (omega arith) (F .start-low) k i) };
-        finishes = record { long = omega arith; low = λ i h. rw (d .finish-at i) (ranked-keeps (λ r. finish r ≤ 256) (omega arith) (F .finish-low) k i) };
+        starts = record { long = omega arith; low = λ i h. rw (d .start-at i) (ranked-keeps (λ r. beginLine r ≤ 256) (omega arith) (F .start-low) k i) };
+        finishes = record { long = omega arith; low = λ i h. rw (d .finish-at i) (ranked-keeps (λ r. endLine r ≤ 256) (omega arith) (F .finish-low) k i) };
         numbers = record { long = omega arith; low = λ i h. rw (d .number-at i) (ranked-keeps (λ r. r .label .0 ≤ 64) (omega arith) (F .label-low) k i) };
         forward = λ i h.
-            rw (d .start-at i, d .finish-at i) (ranked-keeps (λ r. 0 < finish r → start r < finish r) (λ u. omega arith) (F .forward) k i);
+            rw (d .start-at i, d .finish-at i) (ranked-keeps (λ r. 0 < endLine r → beginLine r < endLine r) (λ u. omega arith) (F .forward) k i);
       }

@@ -8,7 +8,7 @@ use lib.Dec.{eqb, ltb}
 use lib.ListN.{getD}
 use Rattle.sets.specs.Sets.{mem}
 use Rattle.sets.specs.declared.RunSet.{RunSet}
-use Rattle.moments.specs.Rows.{row}
+use Rattle.set_table.specs.Rows.{row}
 use Rattle.rows.specs.Values.{less, secondsTest, firstsTest, listedTest}
 
 -- r has what a has and neither b nor c

@@ -1,4 +1,3 @@
-pub mod Stored
 pub mod Values
 pub mod RankModel
 pub mod ByRank

@@ -4,19 +4,18 @@
 // that start before each line and those that finish before each line at hand, every row is a few operations on sets.
 ghost use Prim.Native.Nat.{_≤_};
 ghost use lib.ListN.{length};
+ghost use Rattle.matrix.specs.Rows.{tableWords};
 ghost use Rattle.rows.specs.Values.{Wanted, Ranks};
 ghost use Rattle.rows.specs.ByRank.{OrderFits, ByRank, RowsFilled};
 
-mod tables;
 mod values;
 
-use crate::tables::earlier;
-use crate::tables::numbered;
 use crate::values::fill_table;
+use lists::MAX_RUNS;
 use order::Order;
+use rank_tables::earlier;
+use rank_tables::numbered;
 use trace::RunTable;
-
-const MAX_RUNS: usize = 128;
 
 // Start, finish and label number of the run of each rank; 0 where no run has the rank.
 struct Positions {
@@ -52,7 +51,7 @@ fn by_rank(t: RunTable, o: Order) -> Positions
 
 // Fills the table with the rows of the runs of a record in the order in which they finish.
 pub fn fill_rows(t: RunTable, o: Order, wanted: &[u8], labels: usize, table: &mut [u64])
-    requires { ⌜ OrderFits t o × Wanted (now wanted) labels × (2184 ≤ length (now table)) ⌝ }
+    requires { ⌜ OrderFits t o × Wanted (now wanted) labels × (tableWords ≤ length (now table)) ⌝ }
     ensures { λ u. ⌜ RowsFilled t o (now (wanted .entry)) labels (now (table .entry)) (now (table .exit)) ⌝ }
 {
     let p = by_rank(t, o);

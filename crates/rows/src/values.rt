@@ -4,20 +4,20 @@ ghost use mathlib.Core.Bool.{not, _&&_};
 ghost use Prim.Native.Nat.{ℕ, _<_, _≤_};
 ghost use lib.Dec.{eqb};
 ghost use lib.ListN.{length};
+ghost use Rattle.lists.specs.Limits.{maxRuns, maxLines, maxLogLabels};
 ghost use Rattle.sets.specs.Sets.{mem};
-ghost use Rattle.moments.specs.Rows.{row};
+ghost use Rattle.set_table.specs.Rows.{row};
+ghost use Rattle.rank_tables.specs.Tables.{lineWords, labelWords};
+ghost use Rattle.matrix.specs.Rows.{tableRows, tableWords};
 ghost use Rattle.rows.specs.Values.{secondsTest, firstsTest, listedTest, givenValue, rowValue, Wanted, Ranks, Tables, Filled};
-use crate::MAX_RUNS;
-use crate::tables::row_at;
-use crate::tables::store_row;
+use lists::MAX_RUNS;
+use matrix::table::LABEL_ROW;
+use matrix::table::TABLE_ROWS;
+use set_table::row as row_at;
+use set_table::store_row;
 use sets::RunSet;
 
-// The rows with a rank given, and all rows.
-const GIVEN_ROWS: usize = 1024;
-
-const ROWS: usize = 1092;
-
-// The row of the ranks with a label, among those after the rows with a rank given.
+// The row of the ranks with a label, among those after the rows with a rank given: anyLabel of specs.
 const ANY_LABEL: usize = 67;
 
 // What the first set has and neither of the others.
@@ -29,7 +29,7 @@ fn without(a: RunSet, b: RunSet, c: RunSet) -> RunSet
 
 // The ranks to which the run from line s to line f has relation k: 0 before, 1 overlaps, 2 includes.
 fn seconds_of(k: usize, s: usize, f: usize, begun: &[u64], ended: &[u64]) -> RunSet
-    requires { ⌜ (s ≤ 256) × (f ≤ 256) × (length (now begun) ≡ 516) × (length (now ended) ≡ 516) ⌝ }
+    requires { ⌜ (s ≤ maxLines) × (f ≤ maxLines) × (length (now begun) ≡ lineWords) × (length (now ended) ≡ lineWords) ⌝ }
     ensures { λ r. ⌜ ((j : ℕ) → mem r j ≡ secondsTest k s f (now (begun .entry)) (now (ended .entry)) j) ⌝ }
 {
     if k == 0 {
@@ -47,7 +47,7 @@ fn seconds_of(k: usize, s: usize, f: usize, begun: &[u64], ended: &[u64]) -> Run
 
 // The ranks that have relation k to the run from line s to line f.
 fn firsts_of(k: usize, s: usize, f: usize, begun: &[u64], ended: &[u64]) -> RunSet
-    requires { ⌜ (s ≤ 256) × (f ≤ 256) × (length (now begun) ≡ 516) × (length (now ended) ≡ 516) ⌝ }
+    requires { ⌜ (s ≤ maxLines) × (f ≤ maxLines) × (length (now begun) ≡ lineWords) × (length (now ended) ≡ lineWords) ⌝ }
     ensures { λ r. ⌜ ((j : ℕ) → mem r j ≡ firstsTest k s f (now (begun .entry)) (now (ended .entry)) j) ⌝ }
 {
     if k == 0 {
@@ -62,7 +62,7 @@ fn firsts_of(k: usize, s: usize, f: usize, begun: &[u64], ended: &[u64]) -> RunS
 
 // The ranks with the label of number n: none for 0.
 fn with_label(n: usize, labelled: &[u64]) -> RunSet
-    requires { ⌜ (n ≤ 64) × (length (now labelled) ≡ 130) ⌝ }
+    requires { ⌜ (n ≤ maxLogLabels) × (length (now labelled) ≡ labelWords) ⌝ }
     ensures { λ r. ⌜ ((j : ℕ) → mem r j ≡ (not (eqb n 0) && mem (row (now (labelled .entry)) n) j)) ⌝ }
 {
     if n == 0 {
@@ -83,9 +83,9 @@ fn given_row<'a>(
     ended: &'a [u64],
     labelled: &'a [u64],
 ) -> RunSet
-    requires { ⌜ (q < 8) × (i < 128) × Ranks (now start) (now finish) (now number) ⌝ }
+    requires { ⌜ (q < 8) × (i < maxRuns) × Ranks (now start) (now finish) (now number) ⌝ }
     requires { ⌜ Tables (now start) (now finish) (now number) (now begun) (now ended) (now labelled) ⌝ }
-    ensures { λ r. ⌜ ((j : ℕ) → j < 128 → mem r j ≡ givenValue (now (start .entry)) (now (finish .entry)) (now (number .entry)) q i j) ⌝ }
+    ensures { λ r. ⌜ ((j : ℕ) → j < maxRuns → mem r j ≡ givenValue (now (start .entry)) (now (finish .entry)) (now (number .entry)) q i j) ⌝ }
 {
     let k = q % 4;
     let s = start[i];
@@ -103,7 +103,7 @@ fn given_row<'a>(
 
 // Row p of those after the rows with a rank given: the ranks of a label of the rule file, or those with any label.
 fn listed_row(p: usize, wanted: &[u8], labels: usize, labelled: &[u64]) -> RunSet
-    requires { ⌜ Wanted (now wanted) labels × (length (now labelled) ≡ 130) ⌝ }
+    requires { ⌜ Wanted (now wanted) labels × (length (now labelled) ≡ labelWords) ⌝ }
     ensures { λ r. ⌜ ((j : ℕ) → mem r j ≡ listedTest (now (wanted .entry)) labels (now (labelled .entry)) p j) ⌝ }
 {
     if p == ANY_LABEL {
@@ -127,12 +127,12 @@ fn row_of<'a>(
     ended: &'a [u64],
     labelled: &'a [u64],
 ) -> RunSet
-    requires { ⌜ (r < 1092) × Ranks (now start) (now finish) (now number) × Wanted (now wanted) labels ⌝ }
+    requires { ⌜ (r < tableRows) × Ranks (now start) (now finish) (now number) × Wanted (now wanted) labels ⌝ }
     requires { ⌜ Tables (now start) (now finish) (now number) (now begun) (now ended) (now labelled) ⌝ }
-    ensures { λ s. ⌜ ((j : ℕ) → j < 128
+    ensures { λ s. ⌜ ((j : ℕ) → j < maxRuns
         → mem s j ≡ rowValue (now (start .entry)) (now (finish .entry)) (now (number .entry)) (now (wanted .entry)) labels r j) ⌝ }
 {
-    if r < GIVEN_ROWS {
+    if r < LABEL_ROW {
         given_row(
             r / MAX_RUNS,
             r % MAX_RUNS,
@@ -144,7 +144,7 @@ fn row_of<'a>(
             labelled,
         )
     } else {
-        listed_row(r - GIVEN_ROWS, wanted, labels, labelled)
+        listed_row(r - LABEL_ROW, wanted, labels, labelled)
     }
 }
 
@@ -160,13 +160,13 @@ pub fn fill_table<'a>(
     labelled: &'a [u64],
     table: &mut [u64],
 )
-    requires { ⌜ Ranks (now start) (now finish) (now number) × Wanted (now wanted) labels × (2184 ≤ length (now table)) ⌝ }
+    requires { ⌜ Ranks (now start) (now finish) (now number) × Wanted (now wanted) labels × (tableWords ≤ length (now table)) ⌝ }
     requires { ⌜ Tables (now start) (now finish) (now number) (now begun) (now ended) (now labelled) ⌝ }
     ensures { λ u. ⌜ Filled (now (start .entry)) (now (finish .entry)) (now (number .entry)) (now (wanted .entry)) labels
-        (now (table .entry)) (now (table .exit)) 1092 ⌝ }
+        (now (table .entry)) (now (table .exit)) tableRows ⌝ }
 {
     let mut r: usize = 0;
-    while r < ROWS {
+    while r < TABLE_ROWS {
         let s = row_of(
             r,
             start,

@@ -10,10 +10,10 @@ use lib.Dec.{eqb, leb}
 use lib.ListN.{length, take, drop, length-drop}
 use lib.Seq.{take-all, length-take-le, getD-take, getD-drop, ext-getD}
 use borrow.Author.Tests.{le-leb, leb-true}
-use Rattle.lists.specs.Lists.{all?, same?}
+use Rattle.lists.specs.Lists.{same?}
 use Rattle.lists.proofs.Cases.{either-lt, and-right}
-use Rattle.labels.specs.Label.{letter?}
-use Rattle.rules.specs.Limits.{maxLabels, maxLabelBytes, maxNodes}
+use Rattle.labels.specs.Label.{maxLabelBytes, labelLength?, labelForm?}
+use Rattle.rules.specs.Limits.{maxLabels, maxNodes}
 use Rattle.rules.specs.Parts.{byte, part, andThen, readMark, readVersion, labelCount, readLabelCount, readNodeCount, nothingFollows}
 use Rattle.rules.specs.Labels.{placeOf, bytesFrom, labelBytes, listed, readLabel, readLabels, LabelsOk}
 use Rattle.rules.specs.Table.{nodeAt, fieldsOk, readNodes}
@@ -81,13 +81,13 @@ module _ (a b : List ℕ) (first : 600 ≤ length a) (second : 600 ≤ length b)
   label-same n p h k o =
       let size : byte a p ≡ byte b p = same p (omega arith) in
       then-same Refused _ _ _ _
-      (part-same p 1 1 _ _ 5 (omega arith) refl (ap (λ (m : ℕ). leb 1 m && leb m maxLabelBytes) size))
+      (part-same p 1 1 _ _ 5 (omega arith) refl (ap labelLength? size))
       (λ q e.
       let u = part-read b p 1 _ 5 q e in
       let high : byte b p ≤ maxLabelBytes = leb-true _ _ (and-right (leb 1 (byte b p)) (leb (byte b p) maxLabelBytes) (u .1 .1)) in
       let t : bytesFrom a p ≡ bytesFrom b p = from-same p k high in
       part-same q (byte a p) (byte b p) _ _ 5 (omega (arith, u .0)) size
-      (ap₂ _&&_ (ap (all? letter?) t) (ap not (ap (listed a n) t ∙ listed-same n h o (bytesFrom b p)))))
+      (ap₂ _&&_ (ap labelForm? t) (ap not (ap (listed a n) t ∙ listed-same n h o (bytesFrom b p)))))
 
   labels-same : (n : ℕ) → n ≤ maxLabels → readLabels a n ≡ readLabels b n
   unfolding readLabels

@@ -1,23 +1,48 @@
 -- The formula of a node: its children have smaller numbers, so that it does not depend on the bound that its definition
 -- takes; by the node's kind, what it is.
-use Prim.Native.Nat.{ℕ, zero, suc, _+_, _*_, _<_}
+use Prim.Native.Nat.{ℕ, zero, suc, _+_, _*_, _≤_, _<_}
 use mathlib.Core.Path.{_≡_, refl, sym, subst, ap, ap₂, _∙_}
 use mathlib.Core.Bool.{true, false, _&&_}
 use mathlib.Core.List.{List}
 use native.Mathlib.Omega.{arith}
 use lib.Dec.{eqb, ltb}
 use lib.ListN.{length}
-use borrow.Author.Tests.{ltb-true, ne-eqb}
-use Rattle.lists.proofs.Cases.{either-eq, no-both, and-left, and-right}
-use Rattle.rules.specs.Limits.{variables}
-use Rattle.rules.specs.Formula.{Formula, both, neg, exists, has, before, overlaps, includes, same}
+use borrow.Author.Tests.{ltb-true, ne-eqb, lt-ltb, le-leb, lt-leb}
+use Rattle.lists.proofs.Cases.{either-eq, either-lt, no-both, and-left, and-right}
+use Rattle.rules.specs.Limits.{lastKind, variables}
+use Rattle.rules.specs.Formula.{Formula, both, neg, exists, has, pair}
 use Rattle.rules.specs.Parts.{labelCount}
 use Rattle.rules.specs.Labels.{labelBytes}
-use Rattle.rules.specs.Table.{Op, opAnd, opNot, opSome, opHas, opBefore, opOverlaps, opIncludes, opSame, opNone, opOf, inRange, nodeAt, fieldsOk, Good, AtomOk, shape, formulaFrom, tree, formulaAt}
+use Rattle.rules.specs.Table.{Op, opAnd, opNot, opSome, opHas, opNone, opPair, pairingOf, opOf, inRange, nodeAt, fieldsOk, Good, AtomOk, shape, formulaFrom, tree, formulaAt}
 use Rattle.rules.specs.declared.Node.{Node}
 
 two-below : (a b m n : ℕ) → (ltb a m && ltb b n) ≡ true → (a < m) × (b < n)
 two-below a b m n e = (ltb-true a m (and-left (ltb a m) (ltb b n) e), ltb-true b n (and-right (ltb a m) (ltb b n) e))
+
+-- ── the table of kinds ──
+-- kinds 5 to 8 say what holds between two variables
+pub op-pair : (k : ℕ) → 4 < k → k ≤ lastKind → opOf k ≡ opPair (pairingOf k)
+op-pair k low high =
+    simp (
+      ne-eqb k 1 (λ e. omega arith),
+      ne-eqb k 2 (λ e. omega arith),
+      ne-eqb k 3 (λ e. omega arith),
+      ne-eqb k 4 (λ e. omega arith),
+      lt-ltb 4 k low,
+      le-leb k lastKind high,
+    )
+
+-- the table lacks all others
+pub op-none : (k : ℕ) → lastKind < k → opOf k ≡ opNone
+op-none k high =
+    simp (
+      ne-eqb k 1 (λ e. omega arith),
+      ne-eqb k 2 (λ e. omega arith),
+      ne-eqb k 3 (λ e. omega arith),
+      ne-eqb k 4 (λ e. omega arith),
+      lt-ltb 4 k (omega arith),
+      lt-leb k lastKind high,
+    )
 
 -- ── the fields of a node in range ──
 module _ (l n : ℕ) (x : Node) (h : fieldsOk l n x ≡ true) where
@@ -39,30 +64,23 @@ module _ (l n : ℕ) (x : Node) (h : fieldsOk l n x ≡ true) where
   -- a node that is no connective
   pub atom-ok : (x .kind ≡ 1 → ⊥) → (x .kind ≡ 2 → ⊥) → (x .kind ≡ 3 → ⊥) → AtomOk l x
   atom-ok n1 n2 n3 =
+      either-eq (x .kind) 0 (λ e. none opNone (ap opOf e) refl) (λ n0.
       either-eq (x .kind) 4 has-label (λ n4.
-      either-eq (x .kind) 5 (λ e. pair 5 e (omega arith) (omega arith) (at-kind 5 e)) (λ n5.
-      either-eq (x .kind) 6 (λ e. pair 6 e (omega arith) (omega arith) (at-kind 6 e)) (λ n6.
-      either-eq (x .kind) 7 (λ e. pair 7 e (omega arith) (omega arith) (at-kind 7 e)) (λ n7.
-      either-eq (x .kind) 8 (λ e. pair 8 e (omega arith) (omega arith) (at-kind 8 e)) (λ n8.
-      none (simp (ne-eqb (x .kind) 1 n1, ne-eqb (x .kind) 2 n2, ne-eqb (x .kind) 3 n3, ne-eqb (x .kind) 4 n4, ne-eqb (x .kind) 5 n5, ne-eqb (x .kind) 6 n6, ne-eqb (x .kind) 7 n7, ne-eqb (x .kind) 8 n8)))))))
+      either-lt lastKind (x .kind) (λ high. none opNone (op-none (x .kind) high) refl) (λ high. two (omega arith) high)))
     where
-      none : fieldsOk l n x ≡ false → AtomOk l x
-      none e = no-both (sym h ∙ e)
+      none : (o : Op) → opOf (x .kind) ≡ o → inRange l n o (x .a) (x .b) ≡ false → AtomOk l x
+      none o e f = no-both (sym h ∙ (ap (λ (q : Op). inRange l n q (x .a) (x .b)) e ∙ f))
 
       has-label : x .kind ≡ 4 → AtomOk l x
       has-label e =
           let q = has-fields e in
           record { low = omega arith; high = omega arith; first = q .0; place = λ _. q .1; second = λ g. absurd (g e) }
 
-      pair : (k : ℕ) → x .kind ≡ k → 4 < k → k < 9 → (ltb (x .a) variables && ltb (x .b) variables) ≡ true → AtomOk l x
-      pair k e low high f =
-          let q = two-below (x .a) (x .b) variables variables f in
-          record { low = omega arith; high = omega arith; first = q .0; place = λ g. absurd (omega arith); second = λ _. q .1 }
-
--- a node of kinds 4 to 8, by its kind
-pub by-kind : {C : Type 0} (k : ℕ) → 3 < k → k < 9 → (k ≡ 4 → C) → (k ≡ 5 → C) → (k ≡ 6 → C) → (k ≡ 7 → C) → (k ≡ 8 → C) → C
-by-kind k low high f4 f5 f6 f7 f8 =
-    either-eq k 4 f4 (λ n4. either-eq k 5 f5 (λ n5. either-eq k 6 f6 (λ n6. either-eq k 7 f7 (λ n7. f8 (omega arith)))))
+      two : 4 < x .kind → x .kind ≤ lastKind → AtomOk l x
+      two low high =
+          let e = ap (λ (o : Op). inRange l n o (x .a) (x .b)) (op-pair (x .kind) low high) in
+          let q = two-below (x .a) (x .b) variables variables (sym e ∙ h) in
+          record { low = omega arith; high = high; first = q .0; place = λ g. absurd (omega arith); second = λ _. q .1 }
 
 pub good-child : (file : List ℕ) (p n c : ℕ) → Good file p n → c < n → Good file p c
 good-child file p n c g h i k = g i (omega arith)
@@ -77,10 +95,7 @@ module _ (file : List ℕ) (l n a b : ℕ) (f g : ℕ → Formula) (h : (c : ℕ
   shape-agree opNot e = ap neg (h a (ltb-true a n (and-left (ltb a n) (eqb b 0) e)))
   shape-agree opSome e = ap (exists a) (h b (two-below a b variables n e .1))
   shape-agree opHas e = refl
-  shape-agree opBefore e = refl
-  shape-agree opOverlaps e = refl
-  shape-agree opIncludes e = refl
-  shape-agree opSame e = refl
+  shape-agree (opPair p) e = refl
   shape-agree opNone e = refl
 
 pub tree-any : (file : List ℕ) (p j k n : ℕ) → Good file p n → n < j → n < k → tree file p j n ≡ tree file p k n
@@ -120,17 +135,8 @@ module _ (file : List ℕ) (p n : ℕ) (x : Node) (e : x ≡ nodeAt file p n) (g
   pub formula-has : x .kind ≡ 4 → formulaAt file p n ≡ has (x .a) (labelBytes file (x .b))
   formula-has = formula-kind 4
 
-  pub formula-before : x .kind ≡ 5 → formulaAt file p n ≡ before (x .a) (x .b)
-  formula-before = formula-kind 5
-
-  pub formula-overlaps : x .kind ≡ 6 → formulaAt file p n ≡ overlaps (x .a) (x .b)
-  formula-overlaps = formula-kind 6
-
-  pub formula-includes : x .kind ≡ 7 → formulaAt file p n ≡ includes (x .a) (x .b)
-  formula-includes = formula-kind 7
-
-  pub formula-same : x .kind ≡ 8 → formulaAt file p n ≡ same (x .a) (x .b)
-  formula-same = formula-kind 8
+  pub formula-pair : 4 < x .kind → x .kind ≤ lastKind → formulaAt file p n ≡ pair (pairingOf (x .kind)) (x .a) (x .b)
+  formula-pair low high = formula-at ∙ ap (λ (o : Op). shape file o (x .a) (x .b) (formulaAt file p)) (op-pair (x .kind) low high)
 
   -- children: smaller numbers than the node's, t, and good themselves
   module _ (t : ℕ) (q : n ≡ t) where
@@ -165,3 +171,7 @@ module _ (file : List ℕ) (p n : ℕ) (x : Node) (e : x ≡ nodeAt file p n) (g
 
     pub label-number : x .kind ≡ 4 → x .b < labelCount file
     label-number = atom-fields .place
+
+    -- what such a node says
+    pub by-atom : {C : Type 0} → (x .kind ≡ 4 → C) → ((x .kind ≡ 4 → ⊥) → formulaAt file p n ≡ pair (pairingOf (x .kind)) (x .a) (x .b) → C) → C
+    by-atom f g = either-eq (x .kind) 4 f (λ n4. g n4 (formula-pair (omega (arith, atom-fields .low)) (atom-fields .high)))

@@ -9,28 +9,17 @@ use lib.Dec.{eqb, leb}
 use lib.ListN.{length, getD, take, drop, drop-of-length-le, length-take, length-drop}
 use lib.Seq.{drop-cons, length-take-le}
 use borrow.Author.Tests.{eq-eqb, ne-eqb, le-leb, lt-leb, leb-true, not-true, not-false}
-use Rattle.lists.specs.Lists.{all?, same?}
+use Rattle.lists.specs.Lists.{same?}
 use Rattle.lists.proofs.Cases.{either-eq, no-both, and-left, and-right}
 use Rattle.lists.proofs.Lists.{same-refl}
-use Rattle.labels.specs.Label.{letter?, label?, labelOf}
+use Rattle.labels.specs.Label.{maxLabelBytes, labelLength?, labelForm?, label?, labelOf}
+use Rattle.labels.proofs.Form.{form-label}
 use Rattle.labels.specs.declared.Label.{Label}
-use Rattle.rules.specs.Limits.{maxLabelBytes}
 use Rattle.rules.specs.Parts.{byte, part, andThen}
 use Rattle.rules.specs.Labels.{placeOf, bytesFrom, labelBytes, listed, readLabel, readLabels, LabelOk, LabelsOk}
 use Rattle.rules.specs.declared.Read.{Read}
 use Rattle.rules.specs.declared.Read.the-variants.{At, Refused}
 use Rattle.rules.proofs.Parts.{at-inj, part-short, part-bad, part-ok, part-read, then-stop, then-at, both-read}
-
--- ── bytes that are all letters ──
-module _ (s : List ℕ) (i : ℕ) (v l : Bool) where
-  pub letters-next : all? letter? (drop i s) ≡ v → i < length s → l ≡ letter? (getD s i 0) → not l ≡ false → all? letter? (drop (i + 1) s) ≡ v
-  letters-next e h f t = let g : letter? (getD s i 0) ≡ true = sym f ∙ not-false l t in let k = simp (drop-cons s i 0 h, g) at e in rw (add-one i) k
-
-  pub letters-stop : all? letter? (drop i s) ≡ v → i < length s → l ≡ letter? (getD s i 0) → not l ≡ true → false ≡ v
-  letters-stop e h f t = let g : letter? (getD s i 0) ≡ false = sym f ∙ not-true l t in simp (drop-cons s i 0 h, g) at e
-
-pub letters-end : (s : List ℕ) (i : ℕ) (v : Bool) → all? letter? (drop i s) ≡ v → length s ≤ i → true ≡ v
-letters-end s i v e h = rw (drop-of-length-le s h) at e
 
 -- ── two byte strings ──
 module _ (a b : List ℕ) (i : ℕ) where
@@ -169,18 +158,18 @@ module _ (file : List ℕ) (n at : ℕ) (start : at ≤ length file) where
       label-long k = then-stop Refused _ 5 _ (sym (part-bad file at 1 _ 5 (omega arith) (simp (le-leb 1 (byte file at) low, lt-leb (byte file at) maxLabelBytes k))))
 
       module _ (high : byte file at ≤ maxLabelBytes) where
-        sized : (leb 1 (byte file at) && leb (byte file at) maxLabelBytes) ≡ true
+        sized : labelLength? (byte file at) ≡ true
         sized = simp (le-leb 1 (byte file at) low, le-leb (byte file at) maxLabelBytes high)
 
         pub label-cut : length file - (at + 1) < byte file at → Refused 1 ≡ readLabel file n at
         unfolding readLabel
         label-cut k = then-at Refused _ (at + 1) _ _ (sym (part-ok file at 1 _ 5 (omega arith) sized)) (part-short file (at + 1) (byte file at) _ 5 (omega arith))
 
-        module _ (room : byte file at ≤ length file - (at + 1)) (l : Bool) (says : l ≡ all? letter? (take (at + 1 + byte file at - (at + 1)) (drop (at + 1) file))) where
-          tested : all? letter? (bytesFrom file at) ≡ l
-          tested = sym (says ∙ ap (all? letter?) (bytes-part file at))
+        module _ (room : byte file at ≤ length file - (at + 1)) (l : Bool) (says : l ≡ labelForm? (take (at + 1 + byte file at - (at + 1)) (drop (at + 1) file))) where
+          tested : labelForm? (bytesFrom file at) ≡ l
+          tested = sym (says ∙ ap labelForm? (bytes-part file at))
 
-          faulty : (all? letter? (bytesFrom file at) && not (listed file n (bytesFrom file at))) ≡ false → Refused 5 ≡ readLabel file n at
+          faulty : (labelForm? (bytesFrom file at) && not (listed file n (bytesFrom file at))) ≡ false → Refused 5 ≡ readLabel file n at
           unfolding readLabel
           faulty e = then-at Refused _ (at + 1) _ _ (sym (part-ok file at 1 _ 5 (omega arith) sized)) (part-bad file (at + 1) (byte file at) _ 5 (omega arith) e)
 
@@ -205,8 +194,8 @@ pub label-read : (file : List ℕ) (n q : ℕ) → readLabel file n (placeOf fil
 unfolding readLabel placeOf
 label-read file n q e =
     let p : ℕ = placeOf file n in
-    let size : Bool = leb 1 (byte file p) && leb (byte file p) maxLabelBytes in
-    let fit : Bool = all? letter? (bytesFrom file p) && not (listed file n (bytesFrom file p)) in
+    let size : Bool = labelLength? (byte file p) in
+    let fit : Bool = labelForm? (bytesFrom file p) && not (listed file n (bytesFrom file p)) in
     let t = both-read (part file p 1 size 5) (λ q. part file q (byte file p) fit 5) q e in
     let u = part-read file p 1 size 5 (t .0) (t .1) in
     let v = part-read file (t .0) (byte file p) fit 5 q (t .2) in (
@@ -215,8 +204,8 @@ label-read file n q e =
         low = leb-true 1 (byte file p) (and-left (leb 1 (byte file p)) (leb (byte file p) maxLabelBytes) (u .1 .1));
         high = leb-true (byte file p) maxLabelBytes (and-right (leb 1 (byte file p)) (leb (byte file p) maxLabelBytes) (u .1 .1));
         room = omega (arith, u .0, v .1 .0);
-        letters = and-left (all? letter? (bytesFrom file p)) (not (listed file n (bytesFrom file p))) (v .1 .1);
-        fresh = not-true _ (and-right (all? letter? (bytesFrom file p)) (not (listed file n (bytesFrom file p))) (v .1 .1));
+        form = and-left (labelForm? (bytesFrom file p)) (not (listed file n (bytesFrom file p))) (v .1 .1);
+        fresh = not-true _ (and-right (labelForm? (bytesFrom file p)) (not (listed file n (bytesFrom file p))) (v .1 .1));
       },
     )
 
@@ -257,8 +246,7 @@ module _ (file : List ℕ) (n : ℕ) (o : LabelOk file n) where
   label-length = length-take-le (byte file (placeOf file n)) (drop (placeOf file n + 1) file) (simp length-drop (omega (arith, o .room)))
 
   pub label-form : label? (labelBytes file n) ≡ true
-  unfolding label?
-  label-form = let h : length (labelBytes file n) ≤ 24 = omega (arith, label-length, o .high) in simp (le-leb (length (labelBytes file n)) 24 h) (o .letters)
+  label-form = form-label (labelBytes file n) (o .form)
 
 -- "none listed twice": two labels of a file that is taken differ
 pub labels-differ : (file : List ℕ) (n i j : ℕ) → LabelsOk file n → i < j → j < n → labelBytes file i ≡ labelBytes file j → ⊥

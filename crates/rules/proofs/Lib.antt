@@ -2,7 +2,6 @@ pub mod Parts
 pub mod Labels
 pub mod Nodes
 pub mod Formulas
-pub mod WholeTable
 pub mod Rules
 pub mod Cut
 pub mod Scopes

@@ -9,13 +9,14 @@ use lib.Dec.{eqb, ltb}
 use lib.ListN.{length}
 use borrow.Author.Tests.{eq-eqb, ne-eqb, lt-ltb, le-ltb, not-true, not-false}
 use Rattle.lists.proofs.Cases.{either-eq}
-use Rattle.rules.specs.Limits.{variables}
+use Rattle.rules.specs.Limits.{lastKind, variables}
 use Rattle.rules.specs.Parts.{labelCount, andThen}
-use Rattle.rules.specs.Table.{opOf, inRange, nodeAt, fieldsOk, readNode, readNodes, NodeOk}
+use Rattle.rules.specs.Table.{Op, opOf, inRange, nodeAt, fieldsOk, readNode, readNodes, NodeOk}
 use Rattle.rules.specs.declared.Node.{Node}
 use Rattle.rules.specs.declared.Read.{Read}
 use Rattle.rules.specs.declared.Read.the-variants.{At, Refused}
 use Rattle.rules.proofs.Parts.{at-inj, part-short, part-bad, part-ok, part-read, both-read}
+use Rattle.rules.proofs.Formulas.{op-pair, op-none}
 
 -- ── two fields below their bounds ──
 module _ (a m b n : ℕ) where
@@ -45,29 +46,15 @@ module _ (l i : ℕ) (x : Node) (r : Bool) where
   pub fields-has : r ≡ (ltb (x .a) variables && ltb (x .b) l) → x .kind ≡ 4 → r ≡ fieldsOk l i x
   fields-has h e = kind-is 4 e h
 
-  pub fields-pair : r ≡ (ltb (x .a) variables && ltb (x .b) variables) → 4 < x .kind → x .kind < 9 → r ≡ fieldsOk l i x
-  fields-pair h low high =
-      either-eq (x .kind) 5 (λ e. kind-is 5 e h) (λ n5.
-      either-eq (x .kind) 6 (λ e. kind-is 6 e h) (λ n6.
-      either-eq (x .kind) 7 (λ e. kind-is 7 e h) (λ n7. kind-is 8 (omega arith) h)))
+  pub fields-pair : r ≡ (ltb (x .a) variables && ltb (x .b) variables) → 4 < x .kind → x .kind ≤ lastKind → r ≡ fieldsOk l i x
+  fields-pair h low high = h ∙ ap (λ (o : Op). inRange l i o (x .a) (x .b)) (sym (op-pair (x .kind) low high))
 
 module _ (l i : ℕ) (x : Node) where
   pub fields-zero : x .kind ≡ 0 → false ≡ fieldsOk l i x
   fields-zero e = kind-is l i x false 0 e refl
 
-  pub fields-none : 8 < x .kind → false ≡ fieldsOk l i x
-  fields-none h =
-      rw (
-        ne-eqb (x .kind) 1 (λ e. omega arith),
-        ne-eqb (x .kind) 2 (λ e. omega arith),
-        ne-eqb (x .kind) 3 (λ e. omega arith),
-        ne-eqb (x .kind) 4 (λ e. omega arith),
-        ne-eqb (x .kind) 5 (λ e. omega arith),
-        ne-eqb (x .kind) 6 (λ e. omega arith),
-        ne-eqb (x .kind) 7 (λ e. omega arith),
-        ne-eqb (x .kind) 8 (λ e. omega arith),
-      )
-      refl
+  pub fields-none : lastKind < x .kind → false ≡ fieldsOk l i x
+  fields-none h = ap (λ (o : Op). inRange l i o (x .a) (x .b)) (sym (op-none (x .kind) h))
 
 -- ── one node ──
 module _ (file : List ℕ) (p i : ℕ) (start : p + 3 * i ≤ length file) where

@@ -1,6 +1,6 @@
 -- The worked cases P1 and P10: their files are taken, and say what the paper says.
 use mathlib.Core.Path.{_≡_, refl}
-use Rattle.labels.specs.Label.{letter?, digit?}
+use Rattle.labels.specs.Label.{letter?, digit?, labelForm?}
 use Rattle.rules.specs.Formula.{scoped, shallow}
 use Rattle.rules.specs.Parts.{part, andThen, nothingFollows}
 use Rattle.rules.specs.Labels.{placeOf, listed, readLabel, readLabels}
@@ -11,7 +11,7 @@ use Rattle.rules.specs.Cases.{p1File, p1Rule, noEveningIncludesTest, p10
 use Rattle.rules.specs.declared.RuleRead.the-variants as RuleRead
 
 pub p1-taken : ruleOf p1File ≡ RuleRead.Rule p1Rule
-unfolding ruleOf part andThen nothingFollows placeOf listed readLabel readLabels readNodes tree formulaAt timesNamed onceBelow wholeTable scoped shallow letter? digit?
+unfolding ruleOf part andThen nothingFollows placeOf listed readLabel readLabels readNodes tree formulaAt timesNamed onceBelow wholeTable scoped shallow letter? digit? labelForm?
 p1-taken = refl
 
 pub p1-formula : formulaOf p1File p1Rule ≡ noEveningIncludesTest

@@ -2,7 +2,7 @@
 use Prim.Native.Nat.{ℕ}
 use mathlib.Core.List.{List, [], _∷_, _++_}
 use Rattle.lists.specs.Lists.{bytes}
-use Rattle.rules.specs.Formula.{Formula, both, neg, exists, has, includes, same}
+use Rattle.rules.specs.Formula.{includes, same, Formula, both, neg, exists, has, pair}
 use Rattle.rules.specs.declared.Rule.{Rule}
 
 -- P1: "labels EVENING, TEST; nodes (4,0,0) (4,1,1) (1,0,1) (7,0,1) (1,2,3) (3,1,4) (3,0,5) (2,6,0), 44 bytes in all"
@@ -26,7 +26,7 @@ p1Rule = record { labels = 2; nodes = 20; count = 8 }
 -- "no EVENING includes a TEST"
 abbrev pub noEveningIncludesTest : Formula
 noEveningIncludesTest =
-    neg (exists 0 (exists 1 (both (both (has 0 (bytes "EVENING")) (has 1 (bytes "TEST"))) (includes 0 1))))
+    neg (exists 0 (exists 1 (both (both (has 0 (bytes "EVENING")) (has 1 (bytes "TEST"))) (pair includes 0 1))))
 
 -- P10: "rule "some A, same A A""
 abbrev pub p10File : List ℕ
@@ -36,4 +36,4 @@ abbrev pub p10Rule : Rule
 p10Rule = record { labels = 0; nodes = 7; count = 2 }
 
 abbrev pub someSameAsItself : Formula
-someSameAsItself = exists 0 (same 0 0)
+someSameAsItself = exists 0 (pair same 0 0)

@@ -7,7 +7,7 @@ use lib.ListN.{getD}
 use Rattle.rules.specs.Limits.{maxNested}
 use Rattle.rules.specs.Formula.{Formula, Scope, noScope, scoped, shallow}
 use Rattle.rules.specs.Parts.{labelCount}
-use Rattle.rules.specs.Table.{Op, opAnd, opNot, opSome, opHas, opBefore, opOverlaps, opIncludes, opSame, opNone, opOf, nodeAt, formulaAt}
+use Rattle.rules.specs.Table.{Op, opAnd, opNot, opSome, opHas, opNone, opPair, opOf, nodeAt, formulaAt}
 use Rattle.rules.specs.declared.Node.{Node}
 use Rattle.rules.specs.declared.Vars.{Vars}
 use Rattle.rules.specs.declared.Rule.{Rule}
@@ -24,10 +24,7 @@ fieldsNaming opAnd a b c = fieldNames a c + fieldNames b c
 fieldsNaming opNot a b c = fieldNames a c
 fieldsNaming opSome a b c = fieldNames b c
 fieldsNaming opHas a b c = 0
-fieldsNaming opBefore a b c = 0
-fieldsNaming opOverlaps a b c = 0
-fieldsNaming opIncludes a b c = 0
-fieldsNaming opSame a b c = 0
+fieldsNaming (opPair p) a b c = 0
 fieldsNaming opNone a b c = 0
 
 abbrev pub nodeNames : Node → ℕ → ℕ

@@ -5,13 +5,17 @@ use mathlib.Core.Bool.{Bool, true, false, _&&_, _||_}
 use mathlib.Core.List.{List}
 use lib.Dec.{eqb}
 
--- f and g; not f; some v: f; v has the label; v before w, v overlaps w, v includes w; v and w have the same label
+-- what holds between two variables v and w: v before w, v overlaps w, v includes w; v and w have the same label
+pub data Pairing : Type 0 where
+  before overlaps includes same : Pairing
+
+-- f and g; not f; some v: f; v has the label; what holds between v and w
 pub data Formula : Type 0 where
   both : Formula → Formula → Formula
   neg : Formula → Formula
   exists : ℕ → Formula → Formula
   has : ℕ → List ℕ → Formula
-  before overlaps includes same : ℕ → ℕ → Formula
+  pair : Pairing → ℕ → ℕ → Formula
 
 -- which variables a "some" around the place binds
 abbrev pub Scope : Type 0
@@ -30,10 +34,7 @@ scoped (both f g) s = scoped f s && scoped g s
 scoped (neg f) s = scoped f s
 scoped (exists v f) s = scoped f (enter s v)
 scoped (has v l) s = s v
-scoped (before v w) s = s v && s w
-scoped (overlaps v w) s = s v && s w
-scoped (includes v w) s = s v && s w
-scoped (same v w) s = s v && s w
+scoped (pair p v w) s = s v && s w
 
 -- f of one less; false at 0
 abbrev pub oneLess : ℕ → (ℕ → Bool) → Bool
@@ -46,7 +47,4 @@ shallow n (both f g) = shallow n f && shallow n g
 shallow n (neg f) = shallow n f
 shallow n (exists v f) = oneLess n (λ m. shallow m f)
 shallow n (has v l) = true
-shallow n (before v w) = true
-shallow n (overlaps v w) = true
-shallow n (includes v w) = true
-shallow n (same v w) = true
+shallow n (pair p v w) = true

@@ -3,11 +3,9 @@ use Prim.Native.Nat.{ℕ, zero, suc, _+_, _≤_, _<_}
 use mathlib.Core.Path.{_≡_}
 use mathlib.Core.Bool.{Bool, true, false, not, _&&_, _||_}
 use mathlib.Core.List.{List}
-use lib.Dec.{leb}
 use lib.ListN.{length, take, drop}
-use Rattle.lists.specs.Lists.{all?, same?}
-use Rattle.labels.specs.Label.{letter?}
-use Rattle.rules.specs.Limits.{maxLabelBytes}
+use Rattle.lists.specs.Lists.{same?}
+use Rattle.labels.specs.Label.{maxLabelBytes, labelLength?, labelForm?}
 use Rattle.rules.specs.Parts.{byte, part, andThen, labelsAt}
 use Rattle.rules.specs.declared.Read.{Read}
 use Rattle.rules.specs.declared.Read.the-variants.{At, Refused}
@@ -32,8 +30,8 @@ listed file (suc n) l = listed file n l || same? (labelBytes file n) l
 -- Label n at p: its length byte, then its bytes. "5 a label of wrong length or byte, or listed twice"
 unfoldable pub readLabel : List ℕ → ℕ → ℕ → Read
 readLabel file n p =
-    andThen Refused (part file p 1 (leb 1 (byte file p) && leb (byte file p) maxLabelBytes) 5)
-    (λ q. part file q (byte file p) (all? letter? (bytesFrom file p) && not (listed file n (bytesFrom file p))) 5)
+    andThen Refused (part file p 1 (labelLength? (byte file p)) 5)
+    (λ q. part file q (byte file p) (labelForm? (bytesFrom file p) && not (listed file n (bytesFrom file p))) 5)
 
 -- the first n labels
 unfoldable pub readLabels : List ℕ → ℕ → Read
@@ -45,7 +43,7 @@ pub record LabelOk (file : List ℕ) (n : ℕ) : Type 0 where
   pub low : 1 ≤ byte file (placeOf file n)
   pub high : byte file (placeOf file n) ≤ maxLabelBytes
   pub room : placeOf file n + 1 + byte file (placeOf file n) ≤ length file
-  pub letters : all? letter? (labelBytes file n) ≡ true
+  pub form : labelForm? (labelBytes file n) ≡ true
   pub fresh : listed file n (labelBytes file n) ≡ false
 
 -- so are the first n

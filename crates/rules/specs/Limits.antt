@@ -5,13 +5,13 @@ use Prim.Native.Nat.{ℕ}
 abbrev pub maxLabels : ℕ
 maxLabels = 16
 
--- "A label is 1 to 24 bytes"
-abbrev pub maxLabelBytes : ℕ
-maxLabelBytes = 24
-
 -- "node count 1 to 64"
 abbrev pub maxNodes : ℕ
 maxNodes = 64
+
+-- the last of the paper's table of kinds
+abbrev pub lastKind : ℕ
+lastKind = 8
 
 -- "Variables are 0 to 3."
 abbrev pub variables : ℕ

@@ -3,10 +3,10 @@ use Prim.Native.Nat.{ℕ, zero, suc, _+_, _*_, _≤_, _<_}
 use mathlib.Core.Path.{_≡_}
 use mathlib.Core.Bool.{Bool, true, false, _&&_, cond}
 use mathlib.Core.List.{List}
-use lib.Dec.{eqb, ltb}
+use lib.Dec.{eqb, leb, ltb}
 use lib.ListN.{length}
-use Rattle.rules.specs.Limits.{variables}
-use Rattle.rules.specs.Formula.{Formula, both, neg, exists, has, before, overlaps, includes, same}
+use Rattle.rules.specs.Limits.{lastKind, variables}
+use Rattle.rules.specs.Formula.{Pairing, before, overlaps, includes, same, Formula, both, neg, exists, has, pair}
 use Rattle.rules.specs.Parts.{byte, labelCount, part, andThen}
 use Rattle.rules.specs.Labels.{labelBytes}
 use Rattle.rules.specs.declared.Node.{Node}
@@ -14,19 +14,24 @@ use Rattle.rules.specs.declared.Read.{Read}
 use Rattle.rules.specs.declared.Read.the-variants.{At, Refused}
 
 pub data Op : Type 0 where
-  opAnd opNot opSome opHas opBefore opOverlaps opIncludes opSame opNone : Op
+  opAnd opNot opSome opHas opNone : Op
+  opPair : Pairing → Op
 
--- the paper's table of kinds
+-- the paper's table of kinds: those that speak of two variables, 5 to 8
+abbrev pub pairingOf : ℕ → Pairing
+pairingOf k =
+    cond (eqb k 5) before
+    (cond (eqb k 6) overlaps
+    (cond (eqb k 7) includes same))
+
+-- and all of them
 abbrev pub opOf : ℕ → Op
 opOf k =
     cond (eqb k 1) opAnd
     (cond (eqb k 2) opNot
     (cond (eqb k 3) opSome
     (cond (eqb k 4) opHas
-    (cond (eqb k 5) opBefore
-    (cond (eqb k 6) opOverlaps
-    (cond (eqb k 7) opIncludes
-    (cond (eqb k 8) opSame opNone)))))))
+    (cond (ltb 4 k && leb k lastKind) (opPair (pairingOf k)) opNone))))
 
 -- "nodes of three bytes: kind, a, b"
 abbrev pub nodeAt : List ℕ → ℕ → ℕ → Node
@@ -39,10 +44,7 @@ inRange l n opAnd a b = ltb a n && ltb b n
 inRange l n opNot a b = ltb a n && eqb b 0
 inRange l n opSome a b = ltb a variables && ltb b n
 inRange l n opHas a b = ltb a variables && ltb b l
-inRange l n opBefore a b = ltb a variables && ltb b variables
-inRange l n opOverlaps a b = ltb a variables && ltb b variables
-inRange l n opIncludes a b = ltb a variables && ltb b variables
-inRange l n opSame a b = ltb a variables && ltb b variables
+inRange l n (opPair p) a b = ltb a variables && ltb b variables
 inRange l n opNone a b = false
 
 abbrev pub fieldsOk : ℕ → ℕ → Node → Bool
@@ -69,7 +71,7 @@ Good file p n = (i : ℕ) → i ≤ n → NodeOk file p i
 -- a node of kinds 4 to 8 in a file of l labels, with its fields in range
 pub record AtomOk (l : ℕ) (x : Node) : Type 0 where
   pub low : 3 < x .kind
-  pub high : x .kind < 9
+  pub high : x .kind ≤ lastKind
   pub first : x .a < variables
   pub place : x .kind ≡ 4 → x .b < l
   pub second : (x .kind ≡ 4 → ⊥) → x .b < variables
@@ -81,18 +83,15 @@ shape file opAnd a b child = both (child a) (child b)
 shape file opNot a b child = neg (child a)
 shape file opSome a b child = exists a (child b)
 shape file opHas a b child = has a (labelBytes file b)
-shape file opBefore a b child = before a b
-shape file opOverlaps a b child = overlaps a b
-shape file opIncludes a b child = includes a b
-shape file opSame a b child = same a b
-shape file opNone a b child = same a b
+shape file (opPair p) a b child = pair p a b
+shape file opNone a b child = pair same a b
 
 abbrev pub formulaFrom : List ℕ → Node → (ℕ → Formula) → Formula
 formulaFrom file x child = shape file (opOf (x .kind)) (x .a) (x .b) child
 
 -- the formula of node n, descending at most k times; "children, whose numbers are always smaller", so any k above n serves
 unfoldable pub tree : List ℕ → ℕ → ℕ → ℕ → Formula
-tree file p zero n = same 0 0
+tree file p zero n = pair same 0 0
 tree file p (suc k) n = formulaFrom file (nodeAt file p n) (λ c. tree file p k c)
 
 unfoldable pub formulaAt : List ℕ → ℕ → ℕ → Formula

@@ -2,28 +2,13 @@
 ghost use mathlib.Core.Path.{_≡_};
 ghost use Prim.Native.Nat.{_+_, _≤_};
 ghost use lib.ListN.{length};
-ghost use Rattle.lists.specs.Lists.{all?, same?};
-ghost use Rattle.labels.specs.Label.{letter?, labelOf};
-ghost use Rattle.rules.specs.Limits.{maxLabelBytes};
+ghost use Rattle.lists.specs.Lists.{same?};
+ghost use Rattle.labels.specs.Label.{maxLabelBytes, labelOf};
 ghost use Rattle.rules.specs.Parts.{byte};
 ghost use Rattle.rules.specs.Labels.{placeOf, bytesFrom, labelBytes, listed, readLabel, readLabels, LabelsOk};
 use crate::LABELS_AT;
-use crate::MAX_LABEL_BYTES;
 use crate::Read;
-
-// Whether each byte is one of a label.
-fn all_letters(s: &[u8]) -> bool
-    ensures { λ r. ⌜ r ≡ all? letter? (now (s .entry)) ⌝ }
-{
-    let mut i = 0;
-    while i < s.len() {
-        if !labels::label_byte(s[i]) {
-            return false;
-        }
-        i += 1;
-    }
-    true
-}
+use labels::MAX_LABEL_BYTES;
 
 // Whether two byte strings are the same.
 fn same_bytes(a: &[u8], b: &[u8]) -> bool
@@ -83,7 +68,7 @@ fn label(file: &[u8], n: usize, at: usize) -> Read
         return Read::Refused(1);
     }
     let end = from + size;
-    if !all_letters(&file[from..end]) {
+    if !labels::is_label(&file[from..end]) {
         return Read::Refused(5);
     }
     if is_listed(file, n, at) {

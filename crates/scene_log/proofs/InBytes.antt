@@ -12,6 +12,7 @@ use Rattle.trace.specs.Trace.{Trace, noTrace, runNo, Accepted}
 use Rattle.trace.specs.Record.{recordOf, Valid}
 use Rattle.trace.proofs.Grown.{no-bytes}
 use Rattle.trace.proofs.Bounds.{accepted-bounded}
+use Rattle.pairs.specs.Grid.{workSize}
 use Rattle.pairs.specs.declared.Started.{Started}
 use Rattle.pairs.specs.declared.Start.the-variants as Start
 use Rattle.pairs.specs.Pairs.{workOf}
@@ -22,11 +23,11 @@ use Rattle.relations.specs.Runs.{relateIn, Relating}
 use Rattle.relations.proofs.Runs.{not-finished, answers}
 use Rattle.logic.specs.declared.Verdict.{Verdict}
 use Rattle.logic.specs.declared.Verdict.the-variants as Verdict
-use Rattle.monitor.specs.declared.Outcome.{Outcome}
-use Rattle.monitor.specs.declared.Outcome.the-variants.{Holds, Fails, Refused}
-use Rattle.monitor.specs.declared.Checked.{Checked}
+use Rattle.single.specs.declared.Outcome.{Outcome}
+use Rattle.single.specs.declared.Outcome.the-variants.{Holds, Fails, Refused}
+use Rattle.single.specs.declared.Checked.{Checked}
 use Rattle.reading.specs.Left.{Left}
-use Rattle.monitor.specs.Line.{judged, ChecksLine}
+use Rattle.single.specs.Line.{judged, ChecksLine}
 use Rattle.monitor.proofs.Repeated.{left-by}
 use Rattle.record_bytes.specs.declared.Outcome.{Outcome as Packed}
 use Rattle.record_bytes.specs.declared.Unpacked.{Unpacked}
@@ -74,18 +75,18 @@ module _ (b w : List ℕ) where
           ap (λ (z : Started × List ℕ). z .1) p,
         )
 
-    short : length w < 16384 → is (record { state = recordOf noTrace; outcome = Start.Refused 20 }) w
+    short : length w < workSize → is (record { state = recordOf noTrace; outcome = Start.Refused 20 }) w
     unfolding startOf
     short h = parts _ w (simp (lt-ltb _ _ h))
 
-    ready : 16384 ≤ length w → is (record { state = recordOf noTrace; outcome = Start.Ready }) (workOf [] w)
+    ready : workSize ≤ length w → is (record { state = recordOf noTrace; outcome = Start.Ready }) (workOf [] w)
     unfolding startOf
     ready h = parts _ (workOf [] w) (simp (le-ltb _ _ h))
 
     pub start-no-work : (n : ℕ) → s .outcome ≡ Start.Refused n → StartsNumber b w n b w′
     unfolding startNumbered
     start-no-work n q =
-        either-lt (length w) 16384
+        either-lt (length w) workSize
         (λ h.
         let k = short h in
         let m : n ≡ 20 = cc in
@@ -95,7 +96,7 @@ module _ (b w : List ℕ) where
     pub start-both : s .outcome ≡ Start.Ready → (p : Packed) (b′ : List ℕ) → Packs (s .state) b p b′ → StartsNumber b w 0 b′ w′
     unfolding startNumbered
     start-both q p b′ k =
-        either-lt (length w) 16384
+        either-lt (length w) workSize
         (λ h. let m = short h in absurd (let z : _≡_ {A = ℕ} 0 1 = cc in omega arith))
         (λ h.
         let m = ready h in

@@ -4,9 +4,8 @@ use mathlib.Core.Path.{_≡_, ap, sym, subst, _∙_}
 use mathlib.Core.List.{List, [], _∷_, _++_}
 use lib.ListN.{length, length-append}
 use native.Mathlib.Omega.{arith}
-use Rattle.lines.specs.Line.{eventOf}
 use Rattle.lines.specs.Log.{linesOf}
-use Rattle.trace.specs.Trace.{Trace, Answer, next, refused, noTrace, apply}
+use Rattle.trace.specs.Trace.{Trace, Answer, next, refused, noTrace, step}
 use Rattle.rules.specs.declared.Rule.{Rule}
 use Rattle.rules.specs.declared.RuleRead.{RuleRead}
 use Rattle.rules.specs.declared.RuleRead.the-variants as RuleRead
@@ -15,23 +14,23 @@ use Rattle.logic.specs.declared.Verdict.{Verdict}
 use Rattle.logic.specs.Verdict.{verdictOf}
 use Rattle.relations.specs.declared.Composed.{Composed}
 use Rattle.relations.specs.declared.Composed.the-variants as Composed
-use Rattle.relations.specs.Sets.{conversedOf}
 use Rattle.relations.specs.Runs.{Conversed}
-use Rattle.relations.specs.Compose.{composedOf, Composition}
+use Rattle.relations.specs.Compose.{Composition}
 use Rattle.relations.proofs.Sets.{not-conversed}
 use Rattle.relations.proofs.Demand.{demand-3, first-no-set, second-no-set}
 use Rattle.reading.specs.declared.Ending.the-variants.{Read, Refused}
 use Rattle.reading.specs.declared.LogRead.{LogRead}
-use Rattle.monitor.specs.declared.Tally.{Tally}
-use Rattle.monitor.specs.Line.{withRule}
+use Rattle.tallies.specs.declared.Tally.{Tally}
+use Rattle.single.specs.Line.{withRule}
 use Rattle.reading.specs.Reading.{byAnswer}
-use Rattle.monitor.specs.Log.{logOf, ChecksLog}
-use Rattle.monitor.specs.Tally.{tallyOf, failed}
+use Rattle.monitor.specs.Log.{ChecksLog}
+use Rattle.tallies.specs.Tally.{tallyOf, failed}
 use Rattle.report.specs.declared.Reported.{Reported}
 use Rattle.report.specs.declared.Reported.the-variants as Reported
 use Rattle.report.specs.Text.{lineText, refusedText, tallyText, textFrom, reportText}
-use Rattle.report.specs.Report.{Result, reportOf, Reports}
+use Rattle.report.specs.Report.{Result, Reports}
 use Rattle.scene_log.specs.Numbers.{setNumber, logNumber, endingNumber, logNumbered, reportNumber, reportNumbered, ComposesNumbers, ConversesNumber, ChecksLogNumber, ReportsNumber}
+use Rattle.trace.proofs.Taken.{by-answer}
 
 -- ── sets of relations ──
 pub refused-set : (c : Composed) (n : ℕ) → c ≡ Composed.Refused n → 256 + n ≡ setNumber c
@@ -88,7 +87,7 @@ tally-line y = omega arith
 lines-text : (file : List ℕ) (x : Rule) (t : Trace) (n : ℕ) (ls : List (List ℕ)) → 0 < length (textFrom file x t n ls)
 unfolding textFrom byAnswer
 lines-text file x t n [] = tally-line (tallyOf t n)
-lines-text file x t n (l ∷ ls) = by-answer (apply t (eventOf l))
+lines-text file x t n (l ∷ ls) = by-answer (step (next t) l)
   where
     by-answer : (a : Answer) → 0 < length (byAnswer a
         (λ u. lineText (u .lines) (verdictOf u (formulaOf file x)) ++ textFrom file x u (n + failed (verdictOf u (formulaOf file x))) ls)

@@ -9,17 +9,18 @@ use Rattle.lists.specs.Tells.{Tells}
 use Rattle.trace.specs.declared.Record.{Record}
 use Rattle.trace.specs.Trace.{Trace, noTrace, Accepted}
 use Rattle.trace.specs.Record.{recordOf, Valid}
+use Rattle.pairs.specs.Grid.{workSize}
 use Rattle.pairs.specs.Pairs.{workOf}
 use Rattle.relations.specs.Runs.{relateIn, Answers}
 use Rattle.rules.specs.declared.Rule.{Rule}
 use Rattle.rules.specs.declared.RuleRead.the-variants as RuleRead
 use Rattle.rules.specs.Rules.{ruleOf}
 use Rattle.logic.specs.declared.Verdict.{Verdict}
-use Rattle.monitor.specs.declared.Outcome.{Outcome}
-use Rattle.monitor.specs.declared.Outcome.the-variants.{Holds, Fails, Refused}
-use Rattle.monitor.specs.declared.Checked.{Checked}
+use Rattle.single.specs.declared.Outcome.{Outcome}
+use Rattle.single.specs.declared.Outcome.the-variants.{Holds, Fails, Refused}
+use Rattle.single.specs.declared.Checked.{Checked}
 use Rattle.reading.specs.Left.{Left}
-use Rattle.monitor.specs.Line.{judged, ChecksLine}
+use Rattle.single.specs.Line.{judged, ChecksLine}
 use Rattle.record_bytes.specs.Form.{recordSize, recordBytes, recordFrom}
 use Rattle.scene_log.specs.Numbers.{outcomeNumber, relationNumber}
 
@@ -31,7 +32,7 @@ recordIn r b = recordBytes r ++ drop recordSize b
 -- "it clears these bytes and answers the record of no lines, or refuses with 20": 0 or the refusal, and both buffers
 unfoldable pub startNumbered : List ℕ → List ℕ → ℕ × List ℕ × List ℕ
 startNumbered b w =
-    cond (ltb (length b) recordSize || ltb (length w) 16384) (20, b, w) (0, recordIn (recordOf noTrace) b, workOf [] w)
+    cond (ltb (length b) recordSize || ltb (length w) workSize) (20, b, w) (0, recordIn (recordOf noTrace) b, workOf [] w)
 
 -- the answer and both buffers, for every input; and what is started is what no lines leave
 pub record StartsNumber (b w : List ℕ) (n : ℕ) (b′ w′ : List ℕ) : Type 0 where

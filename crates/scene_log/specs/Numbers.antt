@@ -14,8 +14,8 @@ use Rattle.relations.specs.Compose.{composedOf, Demand3}
 use Rattle.reading.specs.declared.Ending.{Ending}
 use Rattle.reading.specs.declared.Ending.the-variants.{Read, Refused}
 use Rattle.reading.specs.declared.LogRead.{LogRead}
-use Rattle.monitor.specs.declared.Outcome.{Outcome}
-use Rattle.monitor.specs.declared.Outcome.the-variants as Outcome
+use Rattle.single.specs.declared.Outcome.{Outcome}
+use Rattle.single.specs.declared.Outcome.the-variants as Outcome
 use Rattle.monitor.specs.Log.{logOf, ChecksLog}
 use Rattle.report.specs.declared.Reported.{Reported}
 use Rattle.report.specs.declared.Reported.the-variants as Reported

@@ -14,7 +14,7 @@ use Rattle.rules.specs.Formula.{Formula}
 use Rattle.rules.specs.Limits.{maxNodes}
 use Rattle.rules.specs.Table.{nodeAt, Good, formulaAt}
 use Rattle.rules.specs.declared.Node.{Node}
-use Rattle.rules.proofs.Formulas.{by-kind, good-child, atom-fields, and-left-child, and-right-child, not-child, some-child, formula-and, formula-not, formula-some, formula-has, formula-before, formula-overlaps, formula-includes, formula-same}
+use Rattle.rules.proofs.Formulas.{good-child, and-left-child, and-right-child, not-child, some-child, formula-and, formula-not, formula-some, formula-has, by-atom}
 use Rattle.shape.specs.Shape.{free?, height}
 use Rattle.sets.specs.Sets.{bit}
 use Rattle.shape.specs.Tables.{FreeMask, Height, Passed}
@@ -76,14 +76,9 @@ module _ (file : List ℕ) (p n : ℕ) (x : Node) (is : x ≡ nodeAt file p n) (
   pub free-two : (a b : ℕ) → (x .kind ≡ 1 → ⊥) → (x .kind ≡ 2 → ⊥) → (x .kind ≡ 3 → ⊥) → (x .kind ≡ 4 → ⊥) → ((w : ℕ) → bit a w ≡ eqb (x .a) w) → ((w : ℕ) → bit b w ≡ eqb (x .b) w) → FreeMask (formulaAt file p n) (bitOr a b)
   unfolding free?
   free-two a b n1 n2 n3 n4 d e =
-      let o = atom-fields file p n x is good n1 n2 n3 in
-      let h : (w : ℕ) → bit (bitOr a b) w ≡ (eqb (x .a) w || eqb (x .b) w) = λ w. bit-or a b w ∙ ap₂ _||_ (d w) (e w) in
-      by-kind (x .kind) (o .low) (o .high)
+      by-atom file p n x is good n1 n2 n3
       (λ k. absurd (n4 k))
-      (λ k. free-like _ _ (formula-before file p n x is good k) h)
-      (λ k. free-like _ _ (formula-overlaps file p n x is good k) h)
-      (λ k. free-like _ _ (formula-includes file p n x is good k) h)
-      (λ k. free-like _ _ (formula-same file p n x is good k) h)
+      (λ _ is-pair. free-like _ _ is-pair (λ w. bit-or a b w ∙ ap₂ _||_ (d w) (e w)))
 
   -- ── heights ──
   module _ (heights : List ℕ) (known : Passed Height file p n heights) where
@@ -102,13 +97,7 @@ module _ (file : List ℕ) (p n : ℕ) (x : Node) (is : x ≡ nodeAt file p n) (
   pub height-atom : (x .kind ≡ 1 → ⊥) → (x .kind ≡ 2 → ⊥) → (x .kind ≡ 3 → ⊥) → Height (formulaAt file p n) 0
   unfolding height
   height-atom n1 n2 n3 =
-      let a = atom-fields file p n x is good n1 n2 n3 in
-      by-kind (x .kind) (a .low) (a .high)
-      (λ k. rw (formula-has file p n x is good k) refl)
-      (λ k. rw (formula-before file p n x is good k) refl)
-      (λ k. rw (formula-overlaps file p n x is good k) refl)
-      (λ k. rw (formula-includes file p n x is good k) refl)
-      (λ k. rw (formula-same file p n x is good k) refl)
+      by-atom file p n x is good n1 n2 n3 (λ k. rw (formula-has file p n x is good k) refl) (λ _ is-pair. rw is-pair refl)
 
   pub height-within : ((c : ℕ) → c < n → height (formulaAt file p c) ≤ c) → height (formulaAt file p n) ≤ n
   unfolding height

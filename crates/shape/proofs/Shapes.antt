@@ -9,13 +9,13 @@ use native.Mathlib.Omega.{arith}
 use lib.Dec.{eqb, leb, leb·zero, leb·suc-zero, leb·suc-suc}
 use borrow.Author.Tests.{eqb-true, ne-eqb, leb-true, leb-false, le-leb, lt-leb}
 use Rattle.lists.proofs.Cases.{either-eq, either-bool, no-both, and-left, and-right}
-use Rattle.rules.specs.Formula.{Formula, both, neg, exists, has, before, overlaps, includes, same, Scope, noScope, enter, scoped, shallow}
+use Rattle.rules.specs.Formula.{Formula, both, neg, exists, has, pair, Scope, noScope, enter, scoped, shallow}
 use Rattle.rules.specs.Limits.{variables, maxNested}
 use Rattle.rules.specs.Rules.{Taken, formulaOf}
 use Rattle.rules.specs.Table.{nodeAt, Good, formulaAt}
 use Rattle.rules.specs.declared.Node.{Node}
 use Rattle.rules.specs.declared.Rule.{Rule}
-use Rattle.rules.proofs.Formulas.{by-kind, atom-fields, formula-and, formula-not, formula-some, formula-has, formula-before, formula-overlaps, formula-includes, formula-same}
+use Rattle.rules.proofs.Formulas.{formula-and, formula-not, formula-some, formula-has, atom-fields, by-atom}
 use Rattle.shape.specs.Shape.{flat?, free?, height}
 use Rattle.shape.proofs.Nodes.{by-node, and-left-before, and-right-before, not-before, some-before}
 
@@ -36,10 +36,7 @@ shallow-height (neg f) n = shallow-height f n
 shallow-height (exists v f) zero = sym (leb·suc-zero (height f))
 shallow-height (exists v f) (suc n) = shallow-height f n ∙ sym (leb·suc-suc (height f) n)
 shallow-height (has v l) n = sym (leb·zero n)
-shallow-height (before v w) n = sym (leb·zero n)
-shallow-height (overlaps v w) n = sym (leb·zero n)
-shallow-height (includes v w) n = sym (leb·zero n)
-shallow-height (same v w) n = sym (leb·zero n)
+shallow-height (pair p v w) n = sym (leb·zero n)
 
 -- no "some": the height is 0
 pub flat-height : (f : Formula) → flat? f ≡ leb (height f) 0
@@ -48,10 +45,7 @@ flat-height (both f g) = ap₂ _&&_ (flat-height f) (flat-height g) ∙ both-wit
 flat-height (neg f) = flat-height f
 flat-height (exists v f) = sym (leb·suc-zero (height f))
 flat-height (has v l) = refl
-flat-height (before v w) = refl
-flat-height (overlaps v w) = refl
-flat-height (includes v w) = refl
-flat-height (same v w) = refl
+flat-height (pair p v w) = refl
 
 -- "At most four "some" nodes lie one inside another."
 pub rule-height : (file : List ℕ) (x : Rule) → Taken file x → height (formulaOf file x) ≤ maxNested
@@ -83,10 +77,7 @@ scoped-free (exists v f) s e w h = go (eqb v w) (scoped-free f (enter s v) e w (
     go true _ q = no-both (sym q)
     go false q _ = q
 scoped-free (has u l) s e w h = one-free s u w e h
-scoped-free (before u v) s e w h = two-free s u v w e h
-scoped-free (overlaps u v) s e w h = two-free s u v w e h
-scoped-free (includes u v) s e w h = two-free s u v w e h
-scoped-free (same u v) s e w h = two-free s u v w e h
+scoped-free (pair p u v) s e w h = two-free s u v w e h
 
 -- "Every variable used stands inside a "some" that binds it": none stands free
 pub closed-free : (f : Formula) → scoped f noScope ≡ true → (w : ℕ) → free? f w ≡ false
@@ -112,12 +103,9 @@ module _ (file : List ℕ) (p w : ℕ) (l : variables ≤ w) where
     unfolding free?
     not-in-atom n1 n2 n3 =
         let a = atom-fields file p n x is good n1 n2 n3 in
-        by-kind (x .kind) (a .low) (a .high)
+        by-atom file p n x is good n1 n2 n3
         (λ k. rw (formula-has file p n x is good k) (other (x .a) w (a .first) l))
-        (λ k. rw (formula-before file p n x is good k) (others (x .a) (x .b) w (a .first) (a .second (λ q. omega arith)) l))
-        (λ k. rw (formula-overlaps file p n x is good k) (others (x .a) (x .b) w (a .first) (a .second (λ q. omega arith)) l))
-        (λ k. rw (formula-includes file p n x is good k) (others (x .a) (x .b) w (a .first) (a .second (λ q. omega arith)) l))
-        (λ k. rw (formula-same file p n x is good k) (others (x .a) (x .b) w (a .first) (a .second (λ q. omega arith)) l))
+        (λ n4 e. rw e (others (x .a) (x .b) w (a .first) (a .second n4) l))
 
     not-in-node : NotIn n
     unfolding free?

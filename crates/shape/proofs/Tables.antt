@@ -1,11 +1,12 @@
 -- A table of numbers as a loop fills it: empty, one node more, and whole.
-use Prim.Native.Nat.{ℕ, zero, suc, _+_, _-_, _≤_, _<_}
-use mathlib.Core.Path.{_≡_, refl, subst, _∙_}
+use Prim.Native.Nat.{ℕ, _+_, _-_, _≤_, _<_}
+use mathlib.Core.Path.{_≡_, subst, _∙_}
 use mathlib.Core.List.{List}
 use native.Mathlib.Omega.{arith}
 use lib.ListN.{length, getD, set, replicate}
 use lib.Seq.{getD-set-same, getD-set-other}
 use Rattle.lists.proofs.Cases.{either-eq}
+use Rattle.lists.proofs.Lists.{zeros}
 use Rattle.rules.specs.Formula.{Formula}
 use Rattle.rules.specs.Table.{Good, formulaAt}
 use Rattle.shape.specs.Tables.{TableOf}
@@ -13,11 +14,6 @@ use Rattle.shape.specs.Tables.{TableOf}
 -- the nodes up to the last are good, so those up to node n
 pub good-below : (file : List ℕ) (p n count : ℕ) → Good file p (count - 1) → n < count → Good file p n
 good-below file p n count g h i k = g i (omega arith)
-
-zeros : (m k : ℕ) → getD (replicate {A = ℕ} m 0) k 0 ≡ 0
-zeros zero k = refl
-zeros (suc m) zero = refl
-zeros (suc m) (suc k) = zeros m k
 
 module _ (Says : Formula → ℕ → Type 0) (file : List ℕ) (p : ℕ) where
   pub table-none : (m : ℕ) → TableOf Says file p 0 (replicate m 0)

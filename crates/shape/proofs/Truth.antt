@@ -6,12 +6,11 @@ use mathlib.Core.Bool.{Bool, true, false, not, _&&_, _||_, cond, or-true}
 use mathlib.Core.List.{List}
 use lib.Dec.{eqb}
 use borrow.Author.Tests.{eq-eqb}
+use Rattle.lists.proofs.Below.{any-agree}
 use Rattle.lists.proofs.Cases.{no-both, and-left, and-right}
-use Rattle.relations.specs.Relation as Relation
-use Rattle.rules.specs.Formula.{Formula, both, neg, exists, has, before, overlaps, includes, same}
+use Rattle.rules.specs.Formula.{Pairing, Formula, both, neg, exists, has, pair}
 use Rattle.logic.specs.Satisfies.{Binding, bind}
 use Rattle.logic.specs.Model.{Model, eval}
-use Rattle.logic.proofs.Closed.{any-agree}
 use Rattle.shape.specs.Shape.{flat?, free?}
 
 -- ── bindings that agree on the free variables ──
@@ -51,16 +50,12 @@ module _ (m : Model) where
       any-agree (λ j. m .done j && eval m (bind ρ v j) f) (λ j. m .done j && eval m (bind σ v j) f) (m .runs)
       (λ j l. ap (λ (b : Bool). m .done j && b) (eval-free f (bind ρ v j) (bind σ v j) (bound-agree f ρ σ v j h)))
   eval-free (has u l) ρ σ h = ap (λ (i : ℕ). m .labelled i l) (h u (eq-eqb u u refl))
-  eval-free (before u v) ρ σ h = ap₂ (m .relates Relation.before) (h u (first-free u v)) (h v (second-free u v))
-  eval-free (overlaps u v) ρ σ h = ap₂ (m .relates Relation.overlaps) (h u (first-free u v)) (h v (second-free u v))
-  eval-free (includes u v) ρ σ h = ap₂ (m .relates Relation.includes) (h u (first-free u v)) (h v (second-free u v))
-  eval-free (same u v) ρ σ h = ap₂ (m .alike) (h u (first-free u v)) (h v (second-free u v))
+  eval-free (pair p u v) ρ σ h = ap₂ (m .paired p) (h u (first-free u v)) (h v (second-free u v))
 
 -- ── models that say the same of runs, however many there are and whichever are finished ──
 pub record SameAtoms (m o : Model) : Type 0 where
   pub labelled : (j : ℕ) (l : List ℕ) → m .labelled j l ≡ o .labelled j l
-  pub relates : (r : Relation.Relation) (j k : ℕ) → m .relates r j k ≡ o .relates r j k
-  pub alike : (j k : ℕ) → m .alike j k ≡ o .alike j k
+  pub paired : (p : Pairing) (j k : ℕ) → m .paired p j k ≡ o .paired p j k
 
 module _ (m o : Model) (x : SameAtoms m o) where
   -- a formula without "some" has the same truth value in both
@@ -70,7 +65,4 @@ module _ (m o : Model) (x : SameAtoms m o) where
   eval-flat (neg f) ρ e = ap not (eval-flat f ρ e)
   eval-flat (exists v f) ρ e = no-both (sym e)
   eval-flat (has v l) ρ e = x .labelled (ρ v) l
-  eval-flat (before v w) ρ e = x .relates Relation.before (ρ v) (ρ w)
-  eval-flat (overlaps v w) ρ e = x .relates Relation.overlaps (ρ v) (ρ w)
-  eval-flat (includes v w) ρ e = x .relates Relation.includes (ρ v) (ρ w)
-  eval-flat (same v w) ρ e = x .alike (ρ v) (ρ w)
+  eval-flat (pair p v w) ρ e = x .paired p (ρ v) (ρ w)

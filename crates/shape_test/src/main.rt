@@ -38,7 +38,7 @@ fn show_rule(file: &[u8], x: Rule)
 // Reads a rule file and writes its nodes.
 fn show(name: &[u8], file: &[u8]) {
     test_text::write(name);
-    let r = rules::read_rule(file);
+    let r = rule_file::read_rule(file);
     match r {
         RuleRead::Rule(x) => show_rule(file, x),
         RuleRead::Refused(code) => test_text::write_refusal(code),

@@ -1,6 +1,9 @@
-// Records that are changed in one place, and whether two records are the same, for the test programs.
+// Records that are changed in one place, as a case says, and whether two records are the same, for the test programs.
 //
-// A place past an array's end is no change. Nothing is checked: most of these records are none that accepted lines leave.
+// A case is a kind and a text (`test_cases`): `R run 1 9 2 3 2` for the id, begin line, end line and label number of run 1, `B label 0 byte 6 103`,
+// `N label 0 length 25`, `W label 0 TEST` for a label's bytes and length, `P place 15 2` and `M label number 2 at place 15` for what a place
+// holds, `C counts 2 2 3` for those of runs, labels and lines. A place past an array's end is no change. Nothing is checked: most of these
+// records are none that accepted lines leave.
 use labels::Label;
 use labels::LabelNo;
 use labels::LabelTable;
@@ -9,83 +12,101 @@ use trace::Record;
 use trace::Run;
 use trace::RunTable;
 
-// The run with these numbers.
-pub fn run_of(id: u16, begin: u16, end: u16, label: u8) -> Run {
+// The run that a text gives.
+fn run_of(text: &[u8]) -> Run {
     Run {
-        id: id,
-        begin: LineNo(begin),
-        end: LineNo(end),
-        label: LabelNo(label),
+        id: test_cases::short(text, 2),
+        begin: LineNo(test_cases::short(text, 3)),
+        end: LineNo(test_cases::short(text, 4)),
+        label: LabelNo(test_cases::byte(text, 5)),
     }
 }
 
-// The record whose run k is x.
-pub fn with_run(r: Record, k: usize, x: Run) -> Record {
-    let mut q = r;
-    let mut t = q.runs;
+// The table whose run k is x.
+fn with_run(t: RunTable, k: usize, x: Run) -> RunTable {
+    let mut q = t;
     if k < 128 {
-        t.list[k] = x;
+        q.list[k] = x;
     }
-    q.runs = t;
     q
 }
 
-// Label k of a table.
-fn label_of(t: LabelTable, k: usize) -> Label {
+// The table whose label k is x.
+fn with_label(t: LabelTable, k: usize, x: Label) -> LabelTable {
+    let mut q = t;
     if k < 64 {
-        return t.labels[k];
+        q.labels[k] = x;
     }
-    labels::no_label()
-}
-
-// The record whose label k is x.
-pub fn with_label(r: Record, k: usize, x: Label) -> Record {
-    let mut q = r;
-    let mut t = q.labels;
-    if k < 64 {
-        t.labels[k] = x;
-    }
-    q.labels = t;
     q
 }
 
-// The record whose label k has the byte b at a place.
-pub fn with_byte(r: Record, k: usize, at: usize, b: u8) -> Record {
-    let mut x = label_of(r.labels, k);
-    if at < 24 {
-        x.bytes[at] = b;
-    }
-    with_label(r, k, x)
-}
-
-// The record whose label k has another length.
-pub fn with_length(r: Record, k: usize, n: u8) -> Record {
-    let mut x = label_of(r.labels, k);
-    x.length = n;
-    with_label(r, k, x)
-}
-
-// The record whose place p holds n.
-pub fn with_place(r: Record, p: usize, n: u8) -> Record {
-    let mut q = r;
-    let mut t = q.labels;
+// The table whose place p holds n.
+fn with_place(t: LabelTable, p: usize, n: u8) -> LabelTable {
+    let mut q = t;
     if p < 128 {
-        t.places[p] = LabelNo(n);
+        q.places[p] = LabelNo(n);
     }
-    q.labels = t;
     q
 }
 
-// The record with these counts of runs, labels and lines.
-pub fn with_counts(r: Record, runs: usize, names: usize, lines: u16) -> Record {
-    let mut a = r.runs;
-    a.count = runs;
-    let mut b = r.labels;
-    b.count = names;
+// A label whose bytes, length, or one of both a text gives.
+fn label_of(x: Label, kind: u8, text: &[u8]) -> Label {
+    let mut y = x;
+    if kind == b'N' {
+        y.length = test_cases::byte(text, 3);
+    }
+    if kind == b'B' {
+        let at = test_cases::size(text, 3);
+        if at < 24 {
+            y.bytes[at] = test_cases::byte(text, 4);
+        }
+    }
+    if kind == b'W' {
+        if 8 <= text.len() {
+            if text.len() <= 32 {
+                return labels::label_from(&text[8..text.len()]);
+            }
+        }
+    }
+    y
+}
+
+// The table of labels that a text changes.
+fn labels_of(t: LabelTable, kind: u8, text: &[u8]) -> LabelTable {
+    if kind == b'P' {
+        return with_place(t, test_cases::size(text, 1), test_cases::byte(text, 2));
+    }
+    if kind == b'M' {
+        return with_place(t, test_cases::size(text, 5), test_cases::byte(text, 2));
+    }
+    let k = test_cases::size(text, 1);
+    if k < 64 {
+        let x = t.labels[k];
+        return with_label(t, k, label_of(x, kind, text));
+    }
+    t
+}
+
+// The record that a case makes of a record.
+pub fn changed(r: Record, kind: u8, text: &[u8]) -> Record {
+    let mut runs = r.runs;
+    let mut table = r.labels;
+    let mut lines = r.lines;
+    if kind == b'R' {
+        runs = with_run(runs, test_cases::size(text, 1), run_of(text));
+    } else {
+        if kind == b'C' {
+            runs.count = test_cases::size(text, 1);
+            table.count = test_cases::size(text, 2);
+            lines = LineNo(test_cases::short(text, 3));
+        } else {
+            table = labels_of(table, kind, text);
+        }
+    }
     Record {
-        runs: a,
-        labels: b,
-        lines: LineNo(lines),
+        runs: runs,
+        labels: table,
+        lines: lines,
     }
 }
 

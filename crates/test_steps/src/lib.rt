@@ -2,9 +2,7 @@
 //
 // `take_line` takes a line that is given with its LF, `take_next` what a log reader hands out. `read_from` takes all lines of a log
 // and writes what happens to each. `numbered_line` makes one line of many.
-use labels::Label;
 use lines::Next;
-use lines::Parsed;
 use trace::Outcome;
 use trace::Record;
 use trace::Stepped;
@@ -17,49 +15,13 @@ fn refused(r: Record, code: u8) -> Stepped {
     }
 }
 
-// A begin line on a record that accepted lines leave, 21 on any other.
-fn begin(r: Record, id: u16, x: Label) -> Stepped {
-    if !trace::is_record(r) {
-        return refused(r, 21);
-    }
-    if 24 < x.length {
-        return refused(r, 13);
-    }
-    trace::begin_run(r, id, x)
-}
-
-// An end line on a record that accepted lines leave, 21 on any other.
-fn end(r: Record, id: u16) -> Stepped {
-    if !trace::is_record(r) {
-        return refused(r, 21);
-    }
-    trace::end_run(r, id)
-}
-
-// The label that stands in a line, `length` bytes from `at` on.
-fn label_in(line: &[u8], at: usize, length: usize) -> Label {
-    if at <= line.len() {
-        if length <= line.len() - at {
-            if length <= 24 {
-                let stop = at + length;
-                return labels::label_from(&line[at..stop]);
-            }
-        }
-    }
-    labels::no_label()
-}
-
-// Takes one line, given with its LF.
+// Takes one line, given with its LF, on a record that accepted lines leave; 21 on any other.
 pub fn take_line(r: Record, line: &[u8]) -> Stepped {
-    let p = lines::parse_line(line);
-    match p {
-        Parsed::Begin { id, label, length } => {
-            let x = label_in(line, label, length);
-            begin(r, id, x)
-        }
-        Parsed::End(id) => end(r, id),
-        Parsed::Refused(code) => refused(r, code),
+    if !replay::is_record(r) {
+        return refused(r, 21);
     }
+    let said = reading::said_in(line);
+    columns::take_event(r, said)
 }
 
 // Takes the line that stands in a log from start to before end.
@@ -101,8 +63,8 @@ fn was_taken(o: Outcome) -> bool {
     }
 }
 
-// The record after the lines of a log, each of which is written. The first refused line stops it where `stop` says so.
-pub fn read_from(r: Record, log: &[u8], stop: bool) -> Record {
+// The record after the lines of a log. Kind `g` writes each, and stops at the first that is refused; `q` writes none; any other writes each.
+pub fn read_from(r: Record, log: &[u8], kind: u8) -> Record {
     let mut q = r;
     let mut place: usize = 0;
     let mut left: usize = 256;
@@ -114,9 +76,11 @@ pub fn read_from(r: Record, log: &[u8], stop: bool) -> Record {
         let a = take_next(q, log, n);
         q = a.state;
         let o = a.outcome;
-        write_outcome(o);
+        if kind != b'q' {
+            write_outcome(o);
+        }
         if !was_taken(o) {
-            if stop {
+            if kind == b'g' {
                 return q;
             }
         }

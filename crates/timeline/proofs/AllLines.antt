@@ -10,10 +10,9 @@ use lib.Seq.{length-take-le}
 use Rattle.lists.proofs.Cases.{either-lt}
 use Rattle.sets.specs.Sets.{mem}
 use Rattle.sets.specs.declared.RunSet.{RunSet}
-use Rattle.lines.specs.Line.{eventOf}
 use Rattle.lines.specs.Log.{linesOf}
 use Rattle.trace.specs.Trace.{Trace, next, noTrace, steps, read, Accepted}
-use Rattle.trace.proofs.Taken.{step-lines}
+use Rattle.trace.proofs.Taken.{line-lines}
 use Rattle.trace.proofs.Induction.{steps-keep}
 use Rattle.trace.proofs.Accepted.{accepted-orderly}
 use Rattle.rules.specs.Formula.{Formula, noScope, scoped}
@@ -26,7 +25,7 @@ use Rattle.order.specs.Order.{orderTo, finishOrder}
 use Rattle.order.specs.Marks.{Holds}
 use Rattle.order.proofs.Counted.{order-few, order-rises}
 use Rattle.order.proofs.Stable.{first-count}
-use Rattle.moments.specs.Truth.{truth}
+use Rattle.matrix.specs.Truth.{truth}
 use Rattle.rows.specs.RankModel.{rankModel}
 use Rattle.timeline.specs.declared.Timeline.{Timeline}
 use Rattle.timeline.specs.Root.{noRuns, TrueAmong}
@@ -37,7 +36,7 @@ use Rattle.timeline.proofs.Bridge.{eval-at-moment, eval-before-first}
 lines-counted : (ls : List (List ℕ)) (u : Trace) → steps (next noTrace) ls ≡ next u → u .lines ≡ length ls
 lines-counted ls u e =
     let h : length {A = List ℕ} [] + u .lines ≡ length ls =
-    steps-keep (λ ms v. length ms + v .lines ≡ length ls) (λ l ms t v p q. let z = step-lines t v (eventOf l) q in omega arith) ls noTrace u (omega arith) e in
+    steps-keep (λ ms v. length ms + v .lines ≡ length ls) (λ l ms t v p q. let z = line-lines t v l q in omega arith) ls noTrace u (omega arith) e in
     omega arith
 
 module _ (log : List ℕ) (u : Trace) (a : Accepted log u) where

@@ -23,7 +23,7 @@ use Rattle.order.specs.declared.Order.{Order}
 use Rattle.order.specs.Order.{orderTo}
 use Rattle.order.specs.Marks.{EndsFit, Holds, Orders}
 use Rattle.order.proofs.Meaning.{accepted-ends-fit}
-use Rattle.moments.specs.Truth.{truth}
+use Rattle.matrix.specs.Truth.{truth}
 use Rattle.rows.specs.Values.{Wanted}
 use Rattle.rows.specs.ByRank.{OrderFits}
 use Rattle.rows.proofs.Meaning.{order-fits, wanted-low}

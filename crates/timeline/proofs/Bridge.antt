@@ -16,17 +16,17 @@ use Rattle.labels.specs.Label.{text}
 use Rattle.labels.specs.Table.{labelAt}
 use Rattle.lines.specs.Log.{linesOf}
 use Rattle.trace.specs.declared.Run.{Run}
-use Rattle.trace.specs.Trace.{Trace, next, noTrace, runAt, start, finish, steps, Accepted}
+use Rattle.trace.specs.Trace.{Trace, next, noTrace, runAt, beginLine, endLine, steps, Accepted}
 use Rattle.trace.proofs.Accepted.{accepted-orderly}
 use Rattle.relations.specs.Relation as Relation
 use Rattle.rules.specs.Formula.{Formula, noScope, scoped}
-use Rattle.logic.specs.Satisfies.{Binding}
-use Rattle.logic.specs.Model.{Model, eval, numberAt, hasLabel?, related?, sameLabel?, modelOf}
+use Rattle.logic.specs.Satisfies.{Binding, Between, related, alike, between}
+use Rattle.logic.specs.Model.{Model, eval, numberAt, hasLabel?, related?, sameLabel?, holdsBetween?, modelOf}
 use Rattle.order.specs.Order.{orderTo, finishOrder, rankOf}
 use Rattle.order.proofs.Counted.{order-rises, order-front}
 use Rattle.order.proofs.Ranks.{Place, Ranked, ranked-finished, finished-ranked}
 use Rattle.order.proofs.Stable.{Later, first-later}
-use Rattle.moments.specs.Truth.{atMoment, truth}
+use Rattle.matrix.specs.Truth.{atMoment, truth}
 use Rattle.rows.specs.RankModel.{rankRun, rankModel}
 use Rattle.rows.proofs.Meaning.{any-default}
 use Rattle.timeline.proofs.Mirrored.{FinishedWith, Mirrors, eval-mirrored}
@@ -41,7 +41,7 @@ abbrev alikeBy : Trace → ℕ → ℕ → Bool
 alikeBy t m n = not (eqb m 0) && named t n (text (labelAt (t .labels) m))
 
 abbrev relatedBy : Relation.Relation → Run → Run → Bool
-relatedBy k q r = ltb 0 (finish q) && (ltb 0 (finish r) && Relation.relates? k (start q) (finish q) (start r) (finish r))
+relatedBy k q r = ltb 0 (endLine q) && (ltb 0 (endLine r) && Relation.relates? k (beginLine q) (endLine q) (beginLine r) (endLine r))
 
 module _ (t u : Trace) (more : MoreLabels t u) where
   named-same : (n : ℕ) (l : List ℕ) → n ≤ length (t .labels) → named t n l ≡ named u n l
@@ -107,12 +107,16 @@ module _ (log : List ℕ) (whole : Trace) (a : Accepted log whole) (k : ℕ) (t 
         alike-same t whole labels (numberAt t j) (numberAt t i) (number-low j r h) (number-low i s g)
         ∙ ap₂ (alikeBy whole) (number-same j r h) (number-same i s g)
 
+    between-same : (b : Between) (j r i s : ℕ) → AtRank j r → AtRank i s → holdsBetween? b t j i ≡ holdsBetween? b whole (rankRun whole r) (rankRun whole s)
+    between-same (related c) = related-same c
+    between-same alike = alike-runs
+
     -- ── the two models ──
-    finished-at : (j : ℕ) → j < length (t .runs) → ltb 0 (finish (runAt t j)) ≡ true → Ranked t j
-    finished-at j h d = finished-ranked begun t b j h (ltb-true 0 (finish (runAt t j)) d)
+    finished-at : (j : ℕ) → j < length (t .runs) → ltb 0 (endLine (runAt t j)) ≡ true → Ranked t j
+    finished-at j h d = finished-ranked begun t b j h (ltb-true 0 (endLine (runAt t j)) d)
 
     module _ (m : ℕ) (count : length (finishOrder t) ≡ suc m) where
-      to-rank : (j : ℕ) → j < length (t .runs) → ltb 0 (finish (runAt t j)) ≡ true → FinishedWith (atMoment (rankModel whole) m) (λ r. AtRank j r)
+      to-rank : (j : ℕ) → j < length (t .runs) → ltb 0 (endLine (runAt t j)) ≡ true → FinishedWith (atMoment (rankModel whole) m) (λ r. AtRank j r)
       to-rank j h d =
           let q : Ranked t j = finished-at j h d in
           record {
@@ -134,8 +138,7 @@ module _ (log : List ℕ) (whole : Trace) (a : Accepted log whole) (k : ℕ) (t 
             forth = to-rank;
             back = λ r h d. to-run r (leb-true r m d);
             labelled = has-same;
-            relates = related-same;
-            alike = alike-runs;
+            paired = λ p. between-same (between p);
           }
 
     no-mirrors : (M : Model) (m : ℕ) → M .runs ≡ 0 → length (finishOrder t) ≡ 0 → Mirrors (modelOf t) (atMoment M m) (λ j r. ⊥)
@@ -144,8 +147,7 @@ module _ (log : List ℕ) (whole : Trace) (a : Accepted log whole) (k : ℕ) (t 
           forth = λ j h d. absurd (omega (arith, finished-at j h d .low, count));
           back = λ r h d. absurd (omega (arith, h, none));
           labelled = λ j r l h. absurd h;
-          relates = λ c j r i s h g. absurd h;
-          alike = λ j r i s h g. absurd h;
+          paired = λ p j r i s h g. absurd h;
         }
 
   -- ── THE LAWS ──

@@ -11,7 +11,7 @@ use Rattle.lines.specs.Event.{Event}
 use Rattle.lines.specs.Line.{eventOf}
 use Rattle.lines.specs.Log.{linesOf}
 use Rattle.trace.specs.Trace.{Trace, next, noTrace, begin, end, apply, steps, Accepted}
-use Rattle.trace.proofs.Taken.{event-taken}
+use Rattle.trace.proofs.Taken.{event-taken, line-event}
 use Rattle.trace.proofs.Grown.{no-bytes, taken-grows}
 use Rattle.trace.proofs.Induction.{steps-keep}
 use Rattle.order.proofs.Stable.{first-rest}
@@ -45,5 +45,5 @@ module _ (log : List ℕ) (whole : Trace) (a : Accepted log whole) (k : ℕ) (t 
 
   pub first-labels : MoreLabels t whole
   first-labels =
-      steps-keep (λ _. MoreLabels t) (λ l ls u v m q. labels-step t u v m (eventOf l) q) (drop k (linesOf log)) t whole (labels-refl t)
+      steps-keep (λ _. MoreLabels t) (λ l ls u v m q. labels-step t u v m (eventOf l) (line-event u v l q)) (drop k (linesOf log)) t whole (labels-refl t)
       (first-rest log whole a k t first)

@@ -5,13 +5,13 @@ use mathlib.Core.Path.{_≡_, sym, ap, ap₂, _∙_}
 use mathlib.Core.Bool.{Bool, true, false, not, _&&_, _||_, cond}
 use mathlib.Core.List.{List}
 use lib.Dec.{eqb}
+use Rattle.lists.specs.Lists.{anyBelow}
+use Rattle.lists.proofs.Below.{found-yes, found-at}
 use Rattle.lists.proofs.Cases.{no-both, and-left, and-right}
-use Rattle.relations.specs.Relation as Relation
-use Rattle.rules.specs.Formula.{Formula, both, neg, exists, has, before, overlaps, includes, same, Scope, noScope, enter, scoped}
+use Rattle.rules.specs.Formula.{Pairing, Formula, both, neg, exists, has, pair, Scope, noScope, enter, scoped}
 use Rattle.logic.specs.Satisfies.{Binding, bind}
-use Rattle.logic.specs.Model.{Model, anyBelow, eval}
-use Rattle.logic.proofs.Nodes.{found-yes}
-use Rattle.moments.proofs.Truth.{found-at, same-truth}
+use Rattle.logic.specs.Model.{Model, eval}
+use Rattle.matrix.proofs.Truth.{same-truth}
 
 -- a finished run of the model, of which the claim holds
 pub record FinishedWith (M : Model) (P : ℕ → Type 0) : Type 0 where
@@ -24,8 +24,7 @@ pub record Mirrors (M N : Model) (R : ℕ → ℕ → Type 0) : Type 0 where
   pub forth : (j : ℕ) → j < M .runs → M .done j ≡ true → FinishedWith N (λ r. R j r)
   pub back : (r : ℕ) → r < N .runs → N .done r ≡ true → FinishedWith M (λ j. R j r)
   pub labelled : (j r : ℕ) (l : List ℕ) → R j r → M .labelled j l ≡ N .labelled r l
-  pub relates : (k : Relation.Relation) (j r i s : ℕ) → R j r → R i s → M .relates k j i ≡ N .relates k r s
-  pub alike : (j r i s : ℕ) → R j r → R i s → M .alike j i ≡ N .alike r s
+  pub paired : (p : Pairing) (j r i s : ℕ) → R j r → R i s → M .paired p j i ≡ N .paired p r s
 
 both-true : (x y : Bool) → x ≡ true → y ≡ true → x && y ≡ true
 both-true true y p q = q
@@ -79,13 +78,7 @@ module _ (M N : Model) (R : ℕ → ℕ → Type 0) (x : Mirrors M N R) where
       some-same (λ j. eval M (bind ρ v j) f) (λ r. eval N (bind σ v r) f)
       (λ j r d. mirrored-scoped f (enter s v) (bind ρ v j) (bind σ v r) e (enter-mirrored s ρ σ v j r h d))
   mirrored-scoped (has v l) s ρ σ e h = x .labelled (ρ v) (σ v) l (h v e)
-  mirrored-scoped (before v w) s ρ σ e h =
-      x .relates Relation.before (ρ v) (σ v) (ρ w) (σ w) (h v (and-left (s v) (s w) e)) (h w (and-right (s v) (s w) e))
-  mirrored-scoped (overlaps v w) s ρ σ e h =
-      x .relates Relation.overlaps (ρ v) (σ v) (ρ w) (σ w) (h v (and-left (s v) (s w) e)) (h w (and-right (s v) (s w) e))
-  mirrored-scoped (includes v w) s ρ σ e h =
-      x .relates Relation.includes (ρ v) (σ v) (ρ w) (σ w) (h v (and-left (s v) (s w) e)) (h w (and-right (s v) (s w) e))
-  mirrored-scoped (same v w) s ρ σ e h = x .alike (ρ v) (σ v) (ρ w) (σ w) (h v (and-left (s v) (s w) e)) (h w (and-right (s v) (s w) e))
+  mirrored-scoped (pair p v w) s ρ σ e h = x .paired p (ρ v) (σ v) (ρ w) (σ w) (h v (and-left (s v) (s w) e)) (h w (and-right (s v) (s w) e))
 
   -- THE LAW: a closed formula has the same truth value in both
   pub eval-mirrored : (f : Formula) (ρ σ : Binding) → scoped f noScope ≡ true → eval M ρ f ≡ eval N σ f

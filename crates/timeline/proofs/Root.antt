@@ -1,10 +1,10 @@
 -- The root of a taken rule: what the evaluator needs there, from the tables of shapes, and what its answer says of a closed formula.
 use Prim.Native.Nat.{ℕ, zero, suc, _+_, _*_, _-_, _<_, _≤_}
 use mathlib.Core.Path.{_≡_, refl, sym, ap, ap₂, _∙_}
-use mathlib.Core.Bool.{Bool, true, false, _&&_, cond}
+use mathlib.Core.Bool.{Bool, true, false, _&&_}
 use mathlib.Core.List.{List, [], _∷_}
 use native.Mathlib.Omega.{arith}
-use lib.Dec.{eqb, leb, ltb}
+use lib.Dec.{leb, ltb}
 use lib.ListN.{length, replicate}
 use borrow.Author.Tests.{lt-ltb, le-leb}
 use Rattle.sets.specs.Sets.{mem}
@@ -16,12 +16,13 @@ use Rattle.logic.specs.Satisfies.{Binding}
 use Rattle.logic.specs.Model.{Model}
 use Rattle.logic.proofs.Closed.{eval-closed}
 use Rattle.shape.specs.Tables.{Height, FreeMask, TableOf}
-use Rattle.moments.specs.declared.Bindings.{Bindings}
-use Rattle.moments.specs.Truth.{atMoment, truth, at, TrueAt}
+use Rattle.matrix.specs.declared.Bindings.{Bindings}
+use Rattle.matrix.specs.Truth.{atMoment, truth, at, TrueAt}
 use Rattle.moments.specs.Shape.{Heights, Frees}
-use Rattle.moments.specs.Rows.{pairOf, RowsOf}
-use Rattle.moments.specs.Ready.{rank, InRange, tableWords, Ready}
-use Rattle.rows.proofs.Stored.{new-row}
+use Rattle.matrix.specs.Rows.{tableWords, pairOf, RowsOf}
+use Rattle.matrix.specs.Ready.{rank, InRange}
+use Rattle.moments.specs.Ready.{Ready}
+use Rattle.rank_tables.proofs.Tables.{new-row}
 use Rattle.timeline.specs.Root.{noRuns, Shaped, TrueAmong}
 
 -- ── the tables of shapes ──
@@ -69,13 +70,9 @@ pub among-from : (M : Model) (f : Formula) (low m n : ℕ) (s : RunSet) → low 
 among-from M f low m n s e h j k l σ = h j (omega arith) l σ
 
 -- ── a table of zeros ──
-cond-same : (b : Bool) → cond b false false ≡ false
-cond-same true = refl
-cond-same false = refl
-
 none-paired : (k i j : ℕ) → pairOf noRuns k i j ≡ false
 unfolding pairOf
-none-paired k i j = rw (cond-same (eqb k 2), cond-same (eqb k 1), cond-same (eqb k 0)) refl
+none-paired k i j = refl
 
 pub zero-rows : (n : ℕ) (file : List ℕ) → RowsOf (replicate n 0) file 0 noRuns
 zero-rows n file =

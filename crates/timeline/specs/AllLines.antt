@@ -1,9 +1,10 @@
--- The verdicts of all lines of a log.
+-- How the code works, not what it means. The verdicts of all lines of a log.
 use Prim.Native.Nat.{ℕ, zero, suc, _≤_}
 use mathlib.Core.Path.{_≡_}
 use mathlib.Core.Bool.{Bool, cond}
 use mathlib.Core.List.{List}
 use lib.ListN.{getD, take}
+use Rattle.lists.specs.Limits.{maxRuns}
 use Rattle.sets.specs.Sets.{mem}
 use Rattle.sets.specs.declared.RunSet.{RunSet}
 use Rattle.lines.specs.Log.{linesOf}
@@ -28,7 +29,7 @@ verdictAt x l = cond (truthAfter (x .first) (x .moments) (getD (x .done) l 0)) H
 
 -- "At most 128 runs": no line has more that are finished
 abbrev pub FitsRuns : Timeline → Type 0
-FitsRuns x = (l : ℕ) → getD (x .done) l 0 ≤ 128
+FitsRuns x = (l : ℕ) → getD (x .done) l 0 ≤ maxRuns
 
 -- What judging the lines from one on answers for a rule and the record of an accepted log. "judged by its own bytes and the lines
 -- before it": at each line k it is the verdict of the log's first k lines.

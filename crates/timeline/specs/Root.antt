@@ -1,4 +1,4 @@
--- What evaluating a rule for all moments needs and promises.
+-- How the code works, not what it means. What evaluating a rule for all moments needs and promises.
 use Prim.Native.Nat.{ℕ, _<_, _≤_}
 use mathlib.Core.Path.{_≡_}
 use mathlib.Core.Bool.{false}
@@ -22,12 +22,12 @@ use Rattle.order.specs.declared.Order.{Order}
 use Rattle.order.specs.Order.{orderTo}
 use Rattle.order.specs.Marks.{Holds}
 use Rattle.shape.specs.Tables.{Height, FreeMask, TableOf}
-use Rattle.moments.specs.Truth.{truth}
+use Rattle.matrix.specs.Truth.{truth}
 use Rattle.rows.specs.RankModel.{rankModel}
 
 -- "A run is finished once its end line is among the lines read": before the first end line there is none
 abbrev pub noRuns : Model
-noRuns = record { runs = 0; done = λ _. false; labelled = λ _ _. false; relates = λ _ _ _. false; alike = λ _ _. false }
+noRuns = record { runs = 0; done = λ _. false; labelled = λ _ _. false; paired = λ _ _ _. false }
 
 -- the tables of a rule's nodes: how many "some" lie one inside another in each, and which variables stand free in it
 pub record Shaped (file : List ℕ) (x : Rule) (heights frees : List ℕ) : Type 0 where

@@ -6,29 +6,27 @@
 ghost use mathlib.Core.Path.{_≡_};
 ghost use Prim.Native.Nat.{_-_, _≤_};
 ghost use lib.ListN.{length, getD};
+ghost use Rattle.lists.specs.Limits.{maxRuns, maxLines};
 ghost use Rattle.trace.specs.Record.{Valid};
 ghost use Rattle.rules.specs.Rules.{formulaOf, Taken};
 ghost use Rattle.logic.specs.Model.{Model};
-ghost use Rattle.moments.specs.Truth.{truth};
-ghost use Rattle.moments.specs.Rows.{RowsOf};
+ghost use Rattle.matrix.specs.Truth.{truth};
+ghost use Rattle.matrix.specs.Rows.{tableWords, RowsOf};
 ghost use Rattle.rows.specs.Values.{Wanted};
 ghost use Rattle.rows.specs.ByRank.{OrderFits};
 ghost use Rattle.timeline.specs.Root.{noRuns, Shaped, TrueAmong, TrueOfRanks};
 ghost use Rattle.timeline.specs.AllLines.{truthAfter, verdictAt, JudgesFrom, JudgesAll, JudgesLast};
 use logic::Verdict;
+use matrix::table::TABLE_WORDS;
 use moments::Bindings;
 use moments::Rank;
+use order::LINE_PLACES;
 use order::Order;
 use rules::Rule;
+use rules::VARIABLES;
 use sets::RunSet;
 use trace::Record;
 use trace::RunTable;
-
-// A place for each line, and place 0, which is no line's.
-const LINE_PLACES: usize = 257;
-
-// The words of the table of rows.
-const TABLE_WORDS: usize = 2184;
 
 // The moments at which a rule is true, whether it is true before the first of them, and how many runs are finished by each line. What
 // `verdict_at` reads off it is promised.
@@ -51,11 +49,13 @@ fn true_moments(
 ) -> RunSet
     requires { ⌜ Taken (now file) rule ⌝ }
     requires { ⌜ Shaped (now file) rule (now heights) (now frees) ⌝ }
-    requires { ⌜ (2184 ≤ length (now table)) × (runs ≤ 128) × (low ≤ 128) × (count ≤ 128) ⌝ }
+    requires { ⌜ (tableWords ≤ length (now table)) × (runs ≤ maxRuns) × (low ≤ maxRuns) × (count ≤ maxRuns) ⌝ }
     ensures { λ s. ⌜ ((M : Model) → RowsOf (now (table .entry)) (now (file .entry)) runs M
         → TrueAmong M (formulaOf (now (file .entry)) rule) low count s) ⌝ }
 {
-    let none = Bindings { run: [Rank(0); 4] };
+    let none = Bindings {
+        run: [Rank(0); VARIABLES],
+    };
     let root = rule.count - 1;
     let dom = sets::from(sets::below(count), low);
     moments::times::times(
@@ -84,8 +84,8 @@ fn before_first(file: &[u8], rule: Rule, heights: &[u8], frees: &[u8]) -> bool
 
 // The moment at which n runs are finished: moment 0 where none is.
 fn moment_of(n: usize) -> usize
-    requires { ⌜ n ≤ 128 ⌝ }
-    ensures { λ m. ⌜ (m ≡ n - 1) × (m ≤ 128) ⌝ }
+    requires { ⌜ n ≤ maxRuns ⌝ }
+    ensures { λ m. ⌜ (m ≡ n - 1) × (m ≤ maxRuns) ⌝ }
 {
     if n == 0 {
         return 0;
@@ -107,7 +107,7 @@ fn ranked_moments(
     requires { ⌜ Taken (now file) rule ⌝ }
     requires { ⌜ Shaped (now file) rule (now heights) (now frees) ⌝ }
     requires { ⌜ OrderFits t o × Wanted (now wanted) (rule .labels) ⌝ }
-    requires { ⌜ (line ≤ 256) × (getD (o .done) line 0 ≤ 128) ⌝ }
+    requires { ⌜ (line ≤ maxLines) × (getD (o .done) line 0 ≤ maxRuns) ⌝ }
     ensures { λ s. ⌜ TrueOfRanks (now (file .entry)) rule (now (wanted .entry)) t o (getD (o .done) line 0 - 1) s ⌝ }
 {
     let low = moment_of(o.done[line] as usize);
@@ -119,7 +119,7 @@ fn ranked_moments(
 // Judges the lines from `line` on of the log that left a record.
 fn judge_from(file: &[u8], rule: Rule, r: Record, line: usize) -> Timeline
     requires { ⌜ Taken (now file) rule ⌝ }
-    requires { ⌜ Valid r × (line ≤ 256) ⌝ }
+    requires { ⌜ Valid r × (line ≤ maxLines) ⌝ }
     ensures { λ y. ⌜ JudgesFrom (now (file .entry)) rule r line y ⌝ }
 {
     let runs = r.runs;
@@ -150,7 +150,7 @@ pub fn judge_all(file: &[u8], rule: Rule, r: Record) -> Timeline
 
 // The truth value once n runs are finished.
 fn truth_after(first: bool, moments: RunSet, n: usize) -> bool
-    requires { ⌜ n ≤ 128 ⌝ }
+    requires { ⌜ n ≤ maxRuns ⌝ }
     ensures { λ b. ⌜ b ≡ truthAfter first moments n ⌝ }
 {
     if n == 0 {
@@ -161,7 +161,7 @@ fn truth_after(first: bool, moments: RunSet, n: usize) -> bool
 
 // The verdict of a line.
 pub fn verdict_at(x: Timeline, line: usize) -> Verdict
-    requires { ⌜ (line ≤ 256) × (getD (x .done) line 0 ≤ 128) ⌝ }
+    requires { ⌜ (line ≤ maxLines) × (getD (x .done) line 0 ≤ maxRuns) ⌝ }
     ensures { λ w. ⌜ w ≡ verdictAt x line ⌝ }
 {
     let n = x.done[line] as usize;

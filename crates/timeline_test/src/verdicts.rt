@@ -33,7 +33,7 @@ fn write_verdicts(y: Timeline, lines: usize)
 pub fn write_record(file: &[u8], x: Rule, r: Record)
     requires { ⌜ Taken (now file) x ⌝ }
 {
-    if !trace::is_record(r) {
+    if !replay::is_record(r) {
         return;
     }
     let lines = r.lines.0 as usize;
@@ -74,7 +74,7 @@ fn record_of(log: &[u8]) -> Record {
 
 // Reads a rule file and writes its verdicts over the lines that left a record.
 pub fn show_record(file: &[u8], r: Record) {
-    let x = rules::read_rule(file);
+    let x = rule_file::read_rule(file);
     match x {
         RuleRead::Rule(rule) => write_record(file, rule, r),
         RuleRead::Refused(code) => test_text::write_refusal(code),

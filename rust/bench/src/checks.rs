@@ -5,9 +5,11 @@ use crate::logs::MAX_RUNS;
 use crate::table::{seconds, short, Number, Row};
 use Limit::{AtLeast, AtMost, NoneDown, NoneUp};
 
-/// The whole-log call and the single-line call, as multiples of the whole-log call with the two-node rule.
+/// The whole-log call and the single-line call, as multiples of the whole-log call with the two-node rule; and the single-line
+/// call with that rule itself.
 const WHOLE_TO_READING: f64 = 3.0;
 const SINGLE_TO_READING: f64 = 3.0;
+const SINGLE_OF_TWO_NODES: f64 = 1.6;
 
 /// The baselines as multiples of the proved check, on properties 1, 3 and 4 of figure 1 and on property 2.
 const PLAIN_TO_PROVED: f64 = 1000.0;
@@ -41,6 +43,8 @@ type Asked = (&'static str, Limit, fn(&Row) -> Option<Number>, fn(f64) -> String
 
 const SINGLE: Asked = ("single / reading", AtMost(SINGLE_TO_READING), Row::single_to_reading, short);
 
+const TWO_NODES: Asked = ("single / reading", AtMost(SINGLE_OF_TWO_NODES), Row::single_to_reading, short);
+
 const FIGURE_1: [Asked; 2] = [("whole / reading", AtMost(WHOLE_TO_READING), Row::whole_to_reading, short), SINGLE];
 
 const PROPERTIES_1_3_4: [Asked; 2] = [
@@ -71,7 +75,7 @@ pub fn print_checks(rows: &[Row]) -> bool {
     let passed = [
         print_figure_1("section 6 logs", &section_6, |asked| asked),
         print_figure_1("other logs", &others, unlimited),
-        print_check("two nodes", &of("two nodes"), SINGLE),
+        print_check("two nodes", &of("two nodes"), TWO_NODES),
         print_check("section 3", &of("section 3"), unlimited(SINGLE)),
         print_all("worst rules", &of("worst"), &WORST),
     ];

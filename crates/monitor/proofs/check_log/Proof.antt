@@ -1,4 +1,4 @@
-use Rattle.monitor.proofs.LineCall.{rule-taken}
+use Rattle.single.proofs.LineCall.{rule-taken}
 use Rattle.monitor.proofs.LogCall.{log-short, log-small, log-unruled, log-read}
 use borrow.Author.Needs.{needs}
 use Rattle.monitor.proofs.check_log.Statement.{statement}

@@ -1,29 +1,14 @@
--- Each branch tests what one case of `pairSet` tests, and answers that case's number.
-use Rattle.pairs.proofs.Pairs.{sets}
+-- The byte looks at three lines of the two runs.
+use borrow.Author.Needs.{needs}
+use Rattle.pairs.proofs.Pairs.{by-lines}
 use Rattle.pairs.proofs.pair_byte.Statement.{statement}
 use Rattle.pairs.proofs.pair_byte.Tie as tie
 
+set-of-requires : tie.Need-set-of-requires
+set-of-requires c κs = search needs
+
 returns : tie.Need-returns
-returns c = search sets
-
-returns-2 : tie.Need-returns-2
-returns-2 c = search sets
-
-returns-3 : tie.Need-returns-3
-returns-3 c = search sets
-
-returns-4 : tie.Need-returns-4
-returns-4 c = search sets
-
-returns-5 : tie.Need-returns-5
-returns-5 c = search sets
-
-returns-6 : tie.Need-returns-6
-returns-6 c = search sets
-
-returns-7 : tie.Need-returns-7
-returns-7 c = search sets
+returns c = search by-lines
 
 pub pair-byte-spec : {M : Type 1} → statement M
-pair-byte-spec =
-    tie.close (tie.spec returns returns-2 returns-3 returns-4 returns-5 returns-6 returns-7)
+pair-byte-spec = tie.close (tie.spec set-of-requires returns)

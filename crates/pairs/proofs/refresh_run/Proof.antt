@@ -1,5 +1,6 @@
--- The stores of row z and column z are what a refresh is.
+-- The stores down the column and along the row are what a refresh is.
 use borrow.Author.Needs.{needs}
+use Rattle.lists.proofs.Lists.{unmapped}
 use Rattle.pairs.proofs.Refreshed.{refreshes}
 use Rattle.pairs.proofs.refresh_run.Statement.{statement}
 use Rattle.pairs.proofs.refresh_run.Tie as tie
@@ -7,14 +8,20 @@ use Rattle.pairs.proofs.refresh_run.Tie as tie
 cast-at : tie.Need-cast-at
 cast-at c = search needs
 
-store-cross-requires : tie.Need-store-cross-requires
-store-cross-requires c κs = search needs
+store-column-requires : tie.Need-store-column-requires
+store-column-requires c κs = search needs
+
+add-store-rows : tie.Need-add-store-rows
+add-store-rows c = search needs
+
+store-rows-requires : tie.Need-store-rows-requires
+store-rows-requires c κs = search needs
 
 same-length : tie.Need-same-length
 same-length c = search needs
 
 returns : tie.Need-returns
-returns c = search refreshes
+returns c = search (refreshes, unmapped)
 
 pub refresh-run-spec : {M : Type 1} → statement M
-refresh-run-spec = tie.close (tie.spec cast-at store-cross-requires same-length returns)
+refresh-run-spec = tie.close (tie.spec cast-at store-column-requires add-store-rows store-rows-requires same-length returns)

@@ -4,7 +4,6 @@ use Rattle.report.proofs.put_record.Statement.{statement}
 use Rattle.report.proofs.put_record.Tie as tie
 use Rattle.report.proofs.put_record.Reads as reads
 use Rattle.report.proofs.put_record.Lts as lts
-use Rattle.monitor.proofs.tally_of.Reads as tally-of-reads
 use Rattle.report.proofs.count_failing.Reads as count-failing-reads
 use Rattle.report.proofs.put_lines.Reads as put-lines-reads
 use Rattle.report.proofs.text.is_unread.Reads as is-unread-reads

@@ -5,10 +5,10 @@ use Rattle.test_steps.proofs.read_from.Statement.{statement}
 use Rattle.test_steps.proofs.read_from.Tie as tie
 
 abbrev Inv-loop : tie.InvT-loop
-Inv-loop log stop q₀ place₀ left₀ q place left = left ≤ 256
+Inv-loop log kind q₀ place₀ left₀ q place left = left ≤ 256
 
 abbrev μ-loop : tie.MeasureT-loop
-μ-loop log stop q₀ place₀ left₀ q place left = left
+μ-loop log kind q₀ place₀ left₀ q place left = left
 
 loop-holds : tie.Need-loop-holds Inv-loop μ-loop
 loop-holds c = search needs

@@ -1,7 +1,7 @@
 -- The evaluator. Each call goes to a smaller node or, at one node, on to the next function in the order some, some_loop, kept,
 -- opened or some_flat, times; the search by rows is no part of the cycle. A node's moments are those of its formula if its children's are theirs; the loop of "some" has tried the
 -- runs below r, and each moment of dom at which one of them serves is in got.
-use Prim.Native.Nat.{_≤_, _+_, _*_, _-_}
+use Prim.Native.Nat.{_≤_, _+_, _*_, _-_, ℕ, _<_}
 use mathlib.Core.Path.{sym, subst, ap, _∙_}
 use mathlib.Core.Bool.{Bool, _&&_}
 use mathlib.Core.Logic.{⊎-elim}
@@ -13,14 +13,15 @@ use Rattle.sets.specs.declared.RunSet.{RunSet}
 use Rattle.rules.specs.Table.{formulaAt}
 use Rattle.rules.proofs.Formulas.{good-room, some-variable, atom-fields}
 use Rattle.logic.specs.Model.{Model}
-use Rattle.moments.specs.Truth.{FalseWithout}
-use Rattle.moments.specs.Rows.{RowsOf}
-use Rattle.moments.specs.Ready.{binding}
-use Rattle.moments.proofs.Nodes.{moments-and, moments-and-none, moments-not, moments-some, moments-atom}
-use Rattle.moments.proofs.Tried.{Tried, tried-none, tried-more, tried-skip, tried-all, some-at-once}
+use Rattle.matrix.specs.Truth.{FalseWithout}
+use Rattle.matrix.specs.Rows.{RowsOf}
+use Rattle.matrix.specs.Ready.{binding}
+use Rattle.matrix.proofs.Nodes.{moments-and, moments-and-none, moments-not, moments-some, moments-atom}
+use Rattle.moments.proofs.Tried.{Tried, tried-none, tried-more, tried-skip, tried-all}
+use Rattle.matrix.proofs.Some.{some-at-once}
 use Rattle.moments.proofs.Open.{keep-all, keeps-and, keeps-some, keeps-flat, dropped-false, none-dropped}
-use Rattle.moments.proofs.Ready.{left-ready, right-ready, not-ready, some-ready, atom-ready, rebound-ready, rows-ready, all-finished}
-use Prim.Native.Nat.{ℕ, _<_}
+use Rattle.moments.proofs.Ready.{left-ready, right-ready, not-ready, some-ready, atom-ready, rebound-ready, rows-ready}
+use Rattle.matrix.proofs.Ready.{all-finished}
 use borrow.Fn.Kinds.{In}
 use borrow.Fn.PlainCycle.{Measures, is, falls, and}
 use Rattle.moments.proofs.times.kept.Reads as kept
@@ -41,12 +42,12 @@ use Rattle.moments.proofs.times.+kept+opened+some+some_flat+some_loop+t
 use Rattle.moments.proofs.times.times.Reads as times
 use Rattle.moments.proofs.times.times.Kinds as times-kinds
 use Rattle.moments.proofs.times.+kept+opened+some+some_flat+some_loop+times.Lts-times as times-lts
-use Rattle.moments.proofs.keep.some_rows.Reads as some-rows-reads
-use Rattle.moments.proofs.ranks.fixed.Reads as fixed-reads
-use Rattle.moments.proofs.ranks.rebound.Reads as rebound-reads
-use Rattle.moments.proofs.table.atom_set.Reads as atom-set-reads
+use Rattle.matrix.proofs.keep.some_rows.Reads as some-rows-reads
+use Rattle.matrix.proofs.ranks.fixed.Reads as fixed-reads
+use Rattle.matrix.proofs.ranks.rebound.Reads as rebound-reads
+use Rattle.matrix.proofs.table.atom_set.Reads as atom-set-reads
 use Rattle.moments.proofs.search.closed.Reads as closed-reads
-use Rattle.moments.proofs.search.left_of.Reads as left-of-reads
+use Rattle.set_table.proofs.left_of.Reads as left-of-reads
 use Rattle.moments.proofs.search.marked.Reads as marked-reads
 use Rattle.moments.proofs.search.unmarked_height.Reads as unmarked-height-reads
 use Rattle.moments.proofs.search.by_rows.Reads as by-rows-reads

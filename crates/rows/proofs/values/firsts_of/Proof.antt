@@ -4,41 +4,41 @@ use borrow.Author.Needs.{needs}
 use Rattle.rows.proofs.values.firsts_of.Statement.{statement}
 use Rattle.rows.proofs.values.firsts_of.Tie as tie
 
-row-at-requires : tie.Need-row-at-requires
-row-at-requires c κs = search needs
+row-requires : tie.Need-row-requires
+row-requires c κs = search needs
 
-row-at-requires-2 : tie.Need-row-at-requires-2
-row-at-requires-2 c κs = search needs
+row-requires-2 : tie.Need-row-requires-2
+row-requires-2 c κs = search needs
 
 minus-requires : tie.Need-minus-requires
 minus-requires c κs = search needs
 
-row-at-requires-3 : tie.Need-row-at-requires-3
-row-at-requires-3 c κs = search needs
+row-requires-3 : tie.Need-row-requires-3
+row-requires-3 c κs = search needs
 
-row-at-requires-4 : tie.Need-row-at-requires-4
-row-at-requires-4 c κs = search needs
+row-requires-4 : tie.Need-row-requires-4
+row-requires-4 c κs = search needs
 
 meet-requires : tie.Need-meet-requires
 meet-requires c κs = search needs
 
-add-row-at : tie.Need-add-row-at
-add-row-at c = search needs
+add-row : tie.Need-add-row
+add-row c = search needs
 
-row-at-requires-5 : tie.Need-row-at-requires-5
-row-at-requires-5 c κs = search needs
+row-requires-5 : tie.Need-row-requires-5
+row-requires-5 c κs = search needs
 
 minus-requires-2 : tie.Need-minus-requires-2
 minus-requires-2 c κs = search needs
 
-row-at-requires-6 : tie.Need-row-at-requires-6
-row-at-requires-6 c κs = search needs
+row-requires-6 : tie.Need-row-requires-6
+row-requires-6 c κs = search needs
 
-add-row-at-2 : tie.Need-add-row-at-2
-add-row-at-2 c = search needs
+add-row-2 : tie.Need-add-row-2
+add-row-2 c = search needs
 
-row-at-requires-7 : tie.Need-row-at-requires-7
-row-at-requires-7 c κs = search needs
+row-requires-7 : tie.Need-row-requires-7
+row-requires-7 c κs = search needs
 
 minus-requires-3 : tie.Need-minus-requires-3
 minus-requires-3 c κs = search needs
@@ -56,18 +56,18 @@ pub firsts-of-spec : {M : Type 1} → statement M
 firsts-of-spec =
     tie.close
     (tie.spec
-    row-at-requires
-    row-at-requires-2
+    row-requires
+    row-requires-2
     minus-requires
-    row-at-requires-3
-    row-at-requires-4
+    row-requires-3
+    row-requires-4
     meet-requires
-    add-row-at
-    row-at-requires-5
+    add-row
+    row-requires-5
     minus-requires-2
-    row-at-requires-6
-    add-row-at-2
-    row-at-requires-7
+    row-requires-6
+    add-row-2
+    row-requires-7
     minus-requires-3
     returns
     returns-2

@@ -8,8 +8,8 @@ use Rattle.rows.proofs.values.listed_row.Tie as tie
 below-requires : tie.Need-below-requires
 below-requires c κs = search needs
 
-row-at-requires : tie.Need-row-at-requires
-row-at-requires c κs = search needs
+row-requires : tie.Need-row-requires
+row-requires c κs = search needs
 
 minus-requires : tie.Need-minus-requires
 minus-requires c κs = search needs
@@ -40,7 +40,7 @@ listed-row-spec =
     tie.close
     (tie.spec
     below-requires
-    row-at-requires
+    row-requires
     minus-requires
     shared-slice-read-with-label
     cast-with-label

@@ -7,47 +7,47 @@ use Rattle.rows.proofs.values.seconds_of.Tie as tie
 below-requires : tie.Need-below-requires
 below-requires c κs = search needs
 
-add-row-at : tie.Need-add-row-at
-add-row-at c = search needs
+add-row : tie.Need-add-row
+add-row c = search needs
 
-row-at-requires : tie.Need-row-at-requires
-row-at-requires c κs = search needs
+row-requires : tie.Need-row-requires
+row-requires c κs = search needs
 
-row-at-requires-2 : tie.Need-row-at-requires-2
-row-at-requires-2 c κs = search needs
+row-requires-2 : tie.Need-row-requires-2
+row-requires-2 c κs = search needs
 
 without-requires : tie.Need-without-requires
 without-requires c κs = search needs
 
-row-at-requires-3 : tie.Need-row-at-requires-3
-row-at-requires-3 c κs = search needs
+row-requires-3 : tie.Need-row-requires-3
+row-requires-3 c κs = search needs
 
-add-row-at-2 : tie.Need-add-row-at-2
-add-row-at-2 c = search needs
+add-row-2 : tie.Need-add-row-2
+add-row-2 c = search needs
 
-row-at-requires-4 : tie.Need-row-at-requires-4
-row-at-requires-4 c κs = search needs
+row-requires-4 : tie.Need-row-requires-4
+row-requires-4 c κs = search needs
 
-add-row-at-3 : tie.Need-add-row-at-3
-add-row-at-3 c = search needs
+add-row-3 : tie.Need-add-row-3
+add-row-3 c = search needs
 
-row-at-requires-5 : tie.Need-row-at-requires-5
-row-at-requires-5 c κs = search needs
+row-requires-5 : tie.Need-row-requires-5
+row-requires-5 c κs = search needs
 
 without-requires-2 : tie.Need-without-requires-2
 without-requires-2 c κs = search needs
 
-row-at-requires-6 : tie.Need-row-at-requires-6
-row-at-requires-6 c κs = search needs
+row-requires-6 : tie.Need-row-requires-6
+row-requires-6 c κs = search needs
 
-add-row-at-4 : tie.Need-add-row-at-4
-add-row-at-4 c = search needs
+add-row-4 : tie.Need-add-row-4
+add-row-4 c = search needs
 
-row-at-requires-7 : tie.Need-row-at-requires-7
-row-at-requires-7 c κs = search needs
+row-requires-7 : tie.Need-row-requires-7
+row-requires-7 c κs = search needs
 
-row-at-requires-8 : tie.Need-row-at-requires-8
-row-at-requires-8 c κs = search needs
+row-requires-8 : tie.Need-row-requires-8
+row-requires-8 c κs = search needs
 
 without-requires-3 : tie.Need-without-requires-3
 without-requires-3 c κs = search needs
@@ -66,20 +66,20 @@ seconds-of-spec =
     tie.close
     (tie.spec
     below-requires
-    add-row-at
-    row-at-requires
-    row-at-requires-2
+    add-row
+    row-requires
+    row-requires-2
     without-requires
-    row-at-requires-3
-    add-row-at-2
-    row-at-requires-4
-    add-row-at-3
-    row-at-requires-5
+    row-requires-3
+    add-row-2
+    row-requires-4
+    add-row-3
+    row-requires-5
     without-requires-2
-    row-at-requires-6
-    add-row-at-4
-    row-at-requires-7
-    row-at-requires-8
+    row-requires-6
+    add-row-4
+    row-requires-7
+    row-requires-8
     without-requires-3
     returns
     returns-2

@@ -7,8 +7,8 @@ use Rattle.rows.proofs.values.with_label.Tie as tie
 empty-requires : tie.Need-empty-requires
 empty-requires c κs = search needs
 
-row-at-requires : tie.Need-row-at-requires
-row-at-requires c κs = search needs
+row-requires : tie.Need-row-requires
+row-requires c κs = search needs
 
 returns : tie.Need-returns
 returns c = no-label (c .before .before .before .args .n) (c .before .before .before .args .labelled .now) _ (search needs) (c .empty .ensures)
@@ -17,4 +17,4 @@ returns-2 : tie.Need-returns-2
 returns-2 c = some-label (c .before .before .before .args .n) (c .before .before .before .args .labelled .now) _ (search needs) (search needs)
 
 pub with-label-spec : {M : Type 1} → statement M
-with-label-spec = tie.close (tie.spec empty-requires row-at-requires returns returns-2)
+with-label-spec = tie.close (tie.spec empty-requires row-requires returns returns-2)

@@ -35,17 +35,17 @@ returns-4 c = search label-cases
 add-end : tie.Need-add-end
 add-end c = search needs
 
-sub-all-letters : tie.Need-sub-all-letters
-sub-all-letters c = search needs
+sub-is-label : tie.Need-sub-is-label
+sub-is-label c = search needs
 
-part-all-letters-start : tie.Need-part-all-letters-start
-part-all-letters-start c = search needs
+part-is-label-start : tie.Need-part-is-label-start
+part-is-label-start c = search needs
 
-part-all-letters-end : tie.Need-part-all-letters-end
-part-all-letters-end c = search needs
+part-is-label-end : tie.Need-part-is-label-end
+part-is-label-end c = search needs
 
-all-letters-requires : tie.Need-all-letters-requires
-all-letters-requires c κs = search needs
+is-label-requires : tie.Need-is-label-requires
+is-label-requires c κs = search needs
 
 returns-5 : tie.Need-returns-5
 returns-5 c = search label-cases
@@ -73,10 +73,10 @@ label-spec =
     sub-if4
     returns-4
     add-end
-    sub-all-letters
-    part-all-letters-start
-    part-all-letters-end
-    all-letters-requires
+    sub-is-label
+    part-is-label-start
+    part-is-label-end
+    is-label-requires
     returns-5
     is-listed-requires
     returns-6

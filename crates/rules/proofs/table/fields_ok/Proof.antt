@@ -35,7 +35,7 @@ returns-4 c = search fields-has
 returns-5 : tie.Need-returns-5
 returns-5 c =
     let r = c .before .before .before .match .rest in
-    fields-pair _ _ _ _ (c .within5 .ensures) (omega (arith, c .before .before .if1 .left, r .1, r .0 .1, r .0 .0 .1, r .0 .0 .0 .1)) (c .before .if2 .taken)
+    fields-pair _ _ (c .before .before .before .before .args .x) _ (c .within5 .ensures) (omega (arith, c .before .before .if1 .left, r .1, r .0 .1, r .0 .0 .1, r .0 .0 .0 .1)) (omega (arith, c .before .if2 .taken))
 
 returns-6 : tie.Need-returns-6
 returns-6 c = fields-zero _ _ (c .before .before .args .x) (omega arith)

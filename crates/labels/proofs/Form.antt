@@ -1,0 +1,54 @@
+-- The form of a label: what each test of it says, and that bytes of this form are what a run has.
+use Prim.Native.Nat.{ℕ, _+_, _<_, _≤_}
+use mathlib.Core.Path.{_≡_, sym, ap₂, _∙_}
+use mathlib.Core.Bool.{Bool, true, false, not, _&&_}
+use mathlib.Core.List.{List, _∷_}
+use native.Mathlib.Omega.{arith}
+use native.Mathlib.Numerals.{add-one}
+use lib.Dec.{leb}
+use lib.ListN.{length, getD, drop, drop-of-length-le}
+use lib.Seq.{drop-cons}
+use borrow.Author.Tests.{le-leb, lt-leb, not-true, not-false}
+use Rattle.lists.specs.Lists.{all?}
+use Rattle.lists.proofs.Cases.{and-left, and-right}
+use Rattle.labels.specs.Label.{letter?, maxLabelBytes, labelLength?, labelForm?, label?}
+
+-- ── the length ──
+module _ (s : List ℕ) where
+  pub form-empty : length s < 1 → false ≡ labelForm? s
+  unfolding labelForm?
+  form-empty h = simp (lt-leb 1 (length s) h)
+
+  pub form-long : maxLabelBytes < length s → false ≡ labelForm? s
+  unfolding labelForm?
+  form-long h = simp (le-leb 1 (length s) (omega arith), lt-leb (length s) maxLabelBytes h)
+
+  pub form-first : 1 ≤ length s → length s ≤ maxLabelBytes → all? letter? (drop 0 s) ≡ labelForm? s
+  unfolding labelForm?
+  form-first low high = simp (le-leb 1 (length s) low, le-leb (length s) maxLabelBytes high)
+
+-- ── the bytes: those from i on decide ──
+module _ (s : List ℕ) (i : ℕ) (v l : Bool) where
+  pub form-next : all? letter? (drop i s) ≡ v → i < length s → l ≡ letter? (getD s i 0) → not l ≡ false → all? letter? (drop (i + 1) s) ≡ v
+  form-next e h f t = let g : letter? (getD s i 0) ≡ true = sym f ∙ not-false l t in let k = simp (drop-cons s i 0 h, g) at e in rw (add-one i) k
+
+  pub form-stop : all? letter? (drop i s) ≡ v → i < length s → l ≡ letter? (getD s i 0) → not l ≡ true → false ≡ v
+  form-stop e h f t = let g : letter? (getD s i 0) ≡ false = sym f ∙ not-true l t in simp (drop-cons s i 0 h, g) at e
+
+pub form-end : (s : List ℕ) (i : ℕ) (v : Bool) → all? letter? (drop i s) ≡ v → length s ≤ i → true ≡ v
+form-end s i v e h = rw (drop-of-length-le s h) at e
+
+pub ruleset forms = (form-empty, form-long, form-first, form-next, form-stop, form-end)
+
+-- ── what a run has ──
+pub form-label : (s : List ℕ) → labelForm? s ≡ true → label? s ≡ true
+unfolding labelForm? label?
+form-label s e =
+    let size = and-left (labelLength? (length s)) (all? letter? s) e in
+    ap₂ _&&_ (and-right (leb 1 (length s)) (leb (length s) maxLabelBytes) size) (and-right (labelLength? (length s)) (all? letter? s) e)
+
+pub form-some : (b : ℕ) (s : List ℕ) → label? (b ∷ s) ≡ true → labelForm? (b ∷ s) ≡ true
+unfolding labelForm? label?
+form-some b s e =
+    let n : ℕ = length (b ∷ s) in
+    ap₂ _&&_ (ap₂ _&&_ (le-leb 1 n (omega arith)) (and-left (leb n maxLabelBytes) (all? letter? (b ∷ s)) e)) (and-right (leb n maxLabelBytes) (all? letter? (b ∷ s)) e)

@@ -1,0 +1,4 @@
+pub mod Truth
+pub mod Rows
+pub mod Matrix
+pub mod Ready

@@ -1,0 +1,3 @@
+pub mod LineMeans
+pub mod Advanced
+pub mod LineCall

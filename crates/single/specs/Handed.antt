@@ -1,0 +1,25 @@
+-- What is handed in: a record and a work area that a sequence of accepted lines leaves, or that none leaves (21).
+use Prim.Native.Nat.{ℕ, _≤_}
+use mathlib.Core.Path.{_≡_}
+use mathlib.Core.List.{List}
+use mathlib.Core.Option.{Option, none, some}
+use lib.ListN.{length}
+use Rattle.trace.specs.declared.Record.{Record}
+use Rattle.trace.specs.Trace.{Trace}
+use Rattle.pairs.specs.Grid.{workSize}
+use Rattle.rules.specs.declared.Rule.{Rule}
+use Rattle.rules.specs.declared.RuleRead.the-variants as RuleRead
+use Rattle.rules.specs.Rules.{ruleOf}
+use Rattle.reading.specs.Left.{Left}
+
+-- "21 no sequence of accepted lines leaves the record handed in, or the pair bytes are not that record's": the trace of the lines
+-- that leave them, or none
+abbrev pub HandedBy : Record → List ℕ → Option Trace → Type 0
+HandedBy r w none = (log : List ℕ) (t : Trace) → Left log t r w → ⊥
+HandedBy r w (some t) = (log : List ℕ) × Left log t r w
+
+-- the work area is long enough and the rule is taken: only then is 21 looked for
+pub record Reached (file w : List ℕ) : Type 0 where
+  pub long : workSize ≤ length w
+  pub rule : Rule
+  pub taken : ruleOf file ≡ RuleRead.Rule rule

@@ -1,0 +1,4 @@
+pub mod Tallies
+pub mod Failing
+pub mod TallyLaws
+pub mod TallyCall

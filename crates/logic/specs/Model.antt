@@ -1,5 +1,5 @@
--- How the code works, not what it means. The logic as a test, over what a formula's truth depends on: how many runs there are, which are
--- finished, which have a label,
+-- How the code works, not what it means.
+-- The logic as a test, over what a formula's truth depends on: how many runs there are, which are finished, which have a label,
 -- and what holds between two.
 use Prim.Native.Nat.{ℕ}
 use mathlib.Core.Bool.{Bool, not, _&&_}

@@ -1,4 +1,5 @@
--- How the code works, not what it means. Label numbers in a record, which stand for labels.
+-- How the code works, not what it means.
+-- Label numbers in a record, which stand for labels.
 use Prim.Native.Nat.{ℕ, suc}
 use mathlib.Core.Bool.{Bool, not, _&&_, cond}
 use mathlib.Core.List.{List}

@@ -1,5 +1,5 @@
--- How the code works, not what it means. A matrix: a row for each run, which is a set of moments. One variable is marked to stand in row
--- k for run k.
+-- How the code works, not what it means.
+-- A matrix: a row for each run, which is a set of moments. One variable is marked to stand in row k for run k.
 use Prim.Native.Nat.{ℕ}
 use mathlib.Core.Bool.{cond}
 use lib.Dec.{eqb}

@@ -1,5 +1,5 @@
--- How the code works, not what it means. The table of rows: for each relation and each run, the set of runs so related to it, and for
--- each label the set of its runs.
+-- How the code works, not what it means.
+-- The table of rows: for each relation and each run, the set of runs so related to it, and for each label the set of its runs.
 -- A row is two words. With the relations 0 before, 1 overlaps, 2 includes and 3 same:
 --   row maxRuns k + i                the runs j such that relation k holds of i and j
 --   row secondGiven + maxRuns k + j  the runs i such that relation k holds of i and j

@@ -1,5 +1,5 @@
--- How the code works, not what it means. The logic at each moment. Finished runs are numbered by rank, in the order in which they
--- finished, and moment m is the one at which
+-- How the code works, not what it means.
+-- The logic at each moment. Finished runs are numbered by rank, in the order in which they finished, and moment m is the one at which
 -- the runs of rank 0 to m are finished. Positions, relations and labels of finished runs never change, so that a model says these
 -- once, for all moments. Before the first run finishes there is no moment; there every "some" is false.
 use Prim.Native.Nat.{ℕ, _<_}

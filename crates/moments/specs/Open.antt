@@ -1,4 +1,5 @@
--- How the code works, not what it means. Runs that may satisfy a formula, while some variables are left open.
+-- How the code works, not what it means.
+-- Runs that may satisfy a formula, while some variables are left open.
 use Prim.Native.Nat.{ℕ, _<_}
 use mathlib.Core.Path.{_≡_}
 use mathlib.Core.Bool.{Bool, true, false, _||_}

@@ -1,5 +1,5 @@
--- How the code works, not what it means. What the evaluator is handed: the rule file with its table of nodes and their shapes, the table
--- of rows, and the bindings.
+-- How the code works, not what it means.
+-- What the evaluator is handed: the rule file with its table of nodes and their shapes, the table of rows, and the bindings.
 use Prim.Native.Nat.{ℕ, _≤_}
 use mathlib.Core.List.{List}
 use lib.ListN.{length}

@@ -1,5 +1,5 @@
--- How the code works, not what it means. Bytes that say of each node how many "some" lie one inside another in it, and which variables
--- stand free in it.
+-- How the code works, not what it means.
+-- Bytes that say of each node how many "some" lie one inside another in it, and which variables stand free in it.
 use Prim.Native.Nat.{ℕ, _<_, _≤_}
 use mathlib.Core.Path.{_≡_}
 use mathlib.Core.Bool.{true}

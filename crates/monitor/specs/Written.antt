@@ -1,4 +1,5 @@
--- How the code works, not what it means. The verdict bytes of a log's lines, written at once.
+-- How the code works, not what it means.
+-- The verdict bytes of a log's lines, written at once.
 use Prim.Native.Nat.{ℕ, _+_, _<_, _≤_}
 use mathlib.Core.Path.{_≡_}
 use mathlib.Core.List.{List}

@@ -1,4 +1,5 @@
--- How the code works, not what it means. What a refresh of one run's bytes makes of a work area.
+-- How the code works, not what it means.
+-- What a refresh of one run's bytes makes of a work area.
 use Prim.Native.Nat.{ℕ}
 use mathlib.Core.Path.{_≡_}
 use mathlib.Core.List.{List}

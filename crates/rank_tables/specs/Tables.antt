@@ -1,4 +1,5 @@
--- How the code works, not what it means. The ranks by a value that each of them has: its start, its finish or its label number.
+-- How the code works, not what it means.
+-- The ranks by a value that each of them has: its start, its finish or its label number.
 use Prim.Native.Nat.{ℕ, _<_, _≤_}
 use mathlib.Core.Path.{_≡_}
 use mathlib.Core.Bool.{_&&_, _||_}

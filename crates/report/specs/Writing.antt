@@ -1,4 +1,5 @@
--- How the code works, not what it means. Writing text into a lent buffer, piece by piece, and the text of a record with its verdict bytes.
+-- How the code works, not what it means.
+-- Writing text into a lent buffer, piece by piece, and the text of a record with its verdict bytes.
 use Prim.Native.Nat.{ℕ, zero, suc, _+_, _≤_}
 use mathlib.Core.Path.{_≡_}
 use mathlib.Core.Bool.{Bool, false, cond}

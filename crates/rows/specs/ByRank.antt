@@ -1,4 +1,5 @@
--- How the code works, not what it means. Start, finish and label number of each rank, and what the call that fills the table promises.
+-- How the code works, not what it means.
+-- Start, finish and label number of each rank, and what the call that fills the table promises.
 use Prim.Native.Nat.{ℕ, _<_, _≤_}
 use mathlib.Core.Path.{_≡_}
 use mathlib.Core.Bool.{cond}

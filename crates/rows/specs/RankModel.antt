@@ -1,4 +1,5 @@
--- How the code works, not what it means. The finished runs of a trace by their ranks, as the logic sees them. "A run is finished once
+-- How the code works, not what it means.
+-- The finished runs of a trace by their ranks, as the logic sees them. "A run is finished once
 -- its end line is among the lines read":
 -- a rank is a place in the order in which runs finish.
 use Prim.Native.Nat.{ℕ}

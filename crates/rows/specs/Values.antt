@@ -1,5 +1,5 @@
--- How the code works, not what it means. What the table of rows holds, by the start, the finish and the label number of each rank: a
--- rank is a place in the order in which
+-- How the code works, not what it means.
+-- What the table of rows holds, by the start, the finish and the label number of each rank: a rank is a place in the order in which
 -- runs finish. A rank that no finished run has holds 0 for all three.
 use Prim.Native.Nat.{ℕ, _+_, _-_, _/_, _%_, _<_, _≤_}
 use mathlib.Core.Path.{_≡_}

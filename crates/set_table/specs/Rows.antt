@@ -1,4 +1,5 @@
--- How the code works, not what it means. Tables of sets. A row is two words of a lent table, and a set of runs or of moments.
+-- How the code works, not what it means.
+-- Tables of sets. A row is two words of a lent table, and a set of runs or of moments.
 use Prim.Native.Nat.{ℕ, _+_, _*_, _<_, _≤_}
 use mathlib.Core.Path.{_≡_}
 use mathlib.Core.Bool.{Bool, not, _&&_}

@@ -1,4 +1,5 @@
--- How the code works, not what it means. Sets of runs: two words of 64 bits, one bit for each of the 128 places of runs.
+-- How the code works, not what it means.
+-- Sets of runs: two words of 64 bits, one bit for each of the 128 places of runs.
 use Prim.Native.Nat.{ℕ, suc, _-_, _/_, _%_, _^_}
 use mathlib.Core.Bool.{Bool, cond}
 use lib.Dec.{ltb, eqb}

@@ -1,4 +1,5 @@
--- How the code works, not what it means. The shape of a formula: whether a "some" stands in it, which variables stand free in it, and
+-- How the code works, not what it means.
+-- The shape of a formula: whether a "some" stands in it, which variables stand free in it, and
 -- how deep its "some" nest.
 -- Nothing here depends on how a rule is stored.
 use Prim.Native.Nat.{ℕ, zero, suc, max}

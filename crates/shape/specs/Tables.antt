@@ -1,4 +1,5 @@
--- How the code works, not what it means. Tables of numbers, one for each node of a rule: what the number of a node says of its formula.
+-- How the code works, not what it means.
+-- Tables of numbers, one for each node of a rule: what the number of a node says of its formula.
 use Prim.Native.Nat.{ℕ, _≤_, _<_}
 use mathlib.Core.Path.{_≡_}
 use mathlib.Core.List.{List}

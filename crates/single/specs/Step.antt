@@ -1,4 +1,5 @@
--- How the code works, not what it means. The inner step, on a record and a work area that are known to be good. The calls on one line
+-- How the code works, not what it means.
+-- The inner step, on a record and a work area that are known to be good. The calls on one line
 -- all end in it.
 use Prim.Native.Nat.{ℕ}
 use mathlib.Core.Path.{_≡_}

@@ -1,4 +1,5 @@
--- How the code works, not what it means. The verdicts of all lines of a log.
+-- How the code works, not what it means.
+-- The verdicts of all lines of a log.
 use Prim.Native.Nat.{ℕ, zero, suc, _≤_}
 use mathlib.Core.Path.{_≡_}
 use mathlib.Core.Bool.{Bool, cond}

@@ -1,4 +1,5 @@
--- How the code works, not what it means. What evaluating a rule for all moments needs and promises.
+-- How the code works, not what it means.
+-- What evaluating a rule for all moments needs and promises.
 use Prim.Native.Nat.{ℕ, _<_, _≤_}
 use mathlib.Core.Path.{_≡_}
 use mathlib.Core.Bool.{false}

@@ -76,7 +76,7 @@ pub fn print_checks(rows: &[Row]) -> bool {
         print_figure_1("section 6 logs", &section_6, |asked| asked),
         print_figure_1("other logs", &others, unlimited),
         print_check("two nodes", &of("two nodes"), TWO_NODES),
-        print_check("section 3", &of("section 3"), unlimited(SINGLE)),
+        print_check("section 3", &of("section 3"), SINGLE),
         print_all("worst rules", &of("worst"), &WORST),
     ];
     passed.iter().all(|passed| *passed)

@@ -1,9 +1,10 @@
-pub mod Numbers
-pub mod AfterMet
 pub mod Stops
+pub mod Fronts
 pub mod WhereMet
 pub mod OtherCalls
+pub mod Untouched
 pub mod Refusals
 pub mod Verdicts
+pub mod Lessons
 pub mod Worked
 pub mod Claims

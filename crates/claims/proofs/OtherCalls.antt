@@ -1,7 +1,7 @@
 -- Demand 1 of the calls that take no line: starting a record, relating two runs, and sets of relations.
 use Prim.Native.Nat.{ℕ, _≤_, _<_}
 use mathlib.Core.Path.{_≡_, refl, ap, sym, _∙_, subst}
-use mathlib.Core.Logic.{_↔_}
+use mathlib.Core.Logic.{_⊎_, inl, inr, ⊎-elim, _↔_}
 use mathlib.Core.List.{List}
 use mathlib.Core.Bool.{Bool, true, false, _&&_, _||_, cond}
 use native.Mathlib.Omega.{arith}
@@ -35,7 +35,7 @@ use Rattle.report.specs.declared.Reported.{Reported}
 use Rattle.report.specs.declared.Reported.the-variants as Reported
 use Rattle.report.specs.Text.{reportText}
 use Rattle.report.specs.Report.{Result, reportOf, Reports}
-use Rattle.claims.specs.WhereMet.{MetRelate, relate-unknown, relate-unfinished, relate-same, MetCompose, first-above, second-above}
+use Rattle.claims.specs.WhereMet.{MetRelate, relate-unknown, relate-unfinished, relate-same}
 
 -- ── starting a record ──
 same-start : (c d : ℕ) → Start.Refused d ≡ Start.Refused c → d ≡ c
@@ -158,24 +158,27 @@ same-composed c d e = cc
 not-composed : {C : Type 0} (s c : ℕ) → Composed.Set s ≡ Composed.Refused c → C
 not-composed s c e = absurd (let z : _≡_ {A = ℕ} 0 1 = cc in omega arith)
 
-composed-met : (a b c : ℕ) → (composedOf a b ≡ Composed.Refused c) ↔ MetCompose a b c
+composed-met : (a b c : ℕ) → (composedOf a b ≡ Composed.Refused c) ↔ (((63 < a) ⊎ (63 < b)) × (c ≡ 14))
 composed-met a b c = (forth, back)
   where
-    forth : composedOf a b ≡ Composed.Refused c → MetCompose a b c
+    forth : composedOf a b ≡ Composed.Refused c → ((63 < a) ⊎ (63 < b)) × (c ≡ 14)
     forth =
         either-lt 63 a
-        (λ s. simp (lt-leb a 63 s) (λ e. first-above s (sym (same-composed c 14 e))))
+        (λ s. simp (lt-leb a 63 s) (λ e. (inl s, sym (same-composed c 14 e))))
         (λ s.
         either-lt 63 b
-        (λ q. simp (le-leb a 63 s, lt-leb b 63 q) (λ e. second-above q (sym (same-composed c 14 e))))
+        (λ q. simp (le-leb a 63 s, lt-leb b 63 q) (λ e. (inr q, sym (same-composed c 14 e))))
         (λ q. simp (le-leb a 63 s, le-leb b 63 q) (λ e. not-composed (composeOf a b) c e)))
 
-    back : MetCompose a b c → composedOf a b ≡ Composed.Refused c
-    back (first-above s e) = simp (lt-leb a 63 s) (ap Composed.Refused (sym e))
-    back (second-above q e) =
+    back : ((63 < a) ⊎ (63 < b)) × (c ≡ 14) → composedOf a b ≡ Composed.Refused c
+    back p =
+        ⊎-elim
+        (λ s. simp (lt-leb a 63 s) (ap Composed.Refused (sym (p .1))))
+        (λ q.
         either-lt 63 a
-        (λ s. simp (lt-leb a 63 s) (ap Composed.Refused (sym e)))
-        (λ s. simp (le-leb a 63 s, lt-leb b 63 q) (ap Composed.Refused (sym e)))
+        (λ s. simp (lt-leb a 63 s) (ap Composed.Refused (sym (p .1))))
+        (λ s. simp (le-leb a 63 s, lt-leb b 63 q) (ap Composed.Refused (sym (p .1)))))
+        (p .0)
 
 conversed-met : (a c : ℕ) → (conversedOf a ≡ Composed.Refused c) ↔ ((63 < a) × (c ≡ 14))
 conversed-met a c = (forth, λ p. simp (lt-leb a 63 (p .0)) (ap Composed.Refused (sym (p .1))))
@@ -186,8 +189,8 @@ conversed-met a c = (forth, λ p. simp (lt-leb a 63 (p .0)) (ap Composed.Refused
         (λ s. simp (lt-leb a 63 s) (λ e. (s, sym (same-composed c 14 e))))
         (λ s. simp (le-leb a 63 s) (λ e. not-composed (converseOf a) c e))
 
-pub compose-met : (a b : ℕ) (v : Composed) → Composition a b v → (c : ℕ) → (v ≡ Composed.Refused c) ↔ MetCompose a b c
-compose-met a b v h c = subst (λ (z : Composed). (z ≡ Composed.Refused c) ↔ MetCompose a b c) (sym (h .answer)) (composed-met a b c)
+pub compose-met : (a b : ℕ) (v : Composed) → Composition a b v → (c : ℕ) → (v ≡ Composed.Refused c) ↔ (((63 < a) ⊎ (63 < b)) × (c ≡ 14))
+compose-met a b v h c = subst (λ (z : Composed). (z ≡ Composed.Refused c) ↔ (((63 < a) ⊎ (63 < b)) × (c ≡ 14))) (sym (h .answer)) (composed-met a b c)
 
 pub converse-met : (a : ℕ) (v : Composed) → Conversed a v → (c : ℕ) → (v ≡ Composed.Refused c) ↔ ((63 < a) × (c ≡ 14))
 converse-met a v h c = subst (λ (z : Composed). (z ≡ Composed.Refused c) ↔ ((63 < a) × (c ≡ 14))) (sym (h .answer)) (conversed-met a c)

@@ -1,27 +1,42 @@
--- Demand 1: each refusal is on the list and keeps what earlier lines had settled.
-use Prim.Native.Nat.{ℕ, _≤_}
+-- Demand 1: each refusal is on the list and keeps what earlier lines had settled, and no call writes past what it is stated to write.
+use Prim.Native.Nat.{ℕ, _≤_, _<_}
 use mathlib.Core.Path.{_≡_, refl, ap, sym, _∙_, subst}
+use mathlib.Core.Logic.{_↔_}
 use mathlib.Core.List.{List}
 use mathlib.Core.Option.{Option, none, some}
-use mathlib.Core.Bool.{false, _||_}
+use mathlib.Core.Bool.{true, false, _||_}
 use native.Mathlib.Omega.{arith}
 use lib.Dec.{ltb}
 use lib.ListN.{length}
 use borrow.Author.Tests.{lt-ltb, le-ltb}
 use Rattle.lists.proofs.Cases.{either-lt, either-bool}
+use Rattle.lines.specs.Line.{parsedOf}
 use Rattle.lines.specs.Log.{linesOf, placeAfter}
 use Rattle.lines.specs.declared.Next.{Next}
+use Rattle.lines.specs.declared.Parsed.the-variants as Parsed
 use Rattle.lines.proofs.Event.{event-refusal}
 use Rattle.trace.specs.declared.Record.{Record}
+use Rattle.trace.specs.declared.RunNo.{RunNo}
 use Rattle.trace.specs.Trace.{Trace, Answer, next, refused, noTrace, step}
 use Rattle.trace.specs.Record.{recordOf}
 use Rattle.pairs.specs.Grid.{workSize}
 use Rattle.pairs.specs.Pairs.{workOf}
+use Rattle.pairs.specs.declared.Start.the-variants as Start
+use Rattle.relations.specs.declared.Related.{Related}
+use Rattle.relations.specs.declared.Related.the-variants as Related
+use Rattle.relations.specs.declared.Composed.{Composed}
+use Rattle.relations.specs.declared.Composed.the-variants as Composed
+use Rattle.relations.specs.Runs.{Relating, Conversed}
+use Rattle.relations.specs.Compose.{Composition}
 use Rattle.rules.specs.declared.Rule.{Rule}
 use Rattle.rules.specs.declared.RuleRead.{RuleRead}
 use Rattle.rules.specs.declared.RuleRead.the-variants as RuleRead
-use Rattle.rules.specs.Rules.{ruleOf, formulaOf}
+use Rattle.rules.specs.Rules.{ruleOf, formulaOf, ReadsRule}
 use Rattle.rules.proofs.Rules.{reads-rule}
+use Rattle.grammar.specs.MetBytes.{MetBytes}
+use Rattle.grammar.specs.MetRule.{MetRule}
+use Rattle.grammar.proofs.BytesMet.{faulty-says}
+use Rattle.grammar.proofs.RuleMet.{rule-met}
 use Rattle.logic.specs.Verdict.{verdictOf}
 use Rattle.single.specs.declared.Outcome.the-variants.{Refused}
 use Rattle.single.specs.declared.Checked.{Checked}
@@ -33,15 +48,19 @@ use Rattle.single.specs.Handed.{HandedBy, Reached}
 use Rattle.single.specs.Line.{refusing, lineAfter, advanceOf, stateOf, withRule, lineOf, ChecksLine}
 use Rattle.tallies.specs.Tally.{refusingWith, counts?, talliedAfter, talliedState, talliedOf, ChecksTallied}
 use Rattle.reading.specs.Reading.{ended}
-use Rattle.monitor.specs.Log.{notRead, linesFrom, logOf, ChecksLog}
-use Rattle.claims.specs.Demands.{Listed, LogRefused, unread, stopped, Demand1}
-use Rattle.claims.proofs.Numbers.{line-number}
+use Rattle.whole_log.specs.Log.{notRead, linesFrom, logOf, LineAt, ChecksLog}
+use Rattle.report.specs.Calls.{StartCall, LineCall, TalliedCall, LogCall, ReportCall, LongEnough}
+use Rattle.claims.specs.WhereMet.{MetRelate, relate-unknown, relate-unfinished, relate-same}
+use Rattle.claims.specs.Demand1.{Listed, Refuses, LogKept, unread, stopped, Demand1}
+use Rattle.accepted_logs.proofs.Numbers.{line-number}
 use Rattle.claims.proofs.Stops.{same-refusal, not-judged, End, same-ending, Stopped, stops, start-of, start-lines, first-refused}
-use Rattle.claims.proofs.WhereMet.{handed, line-met, tallied-met, log-met}
+use Rattle.claims.proofs.Fronts.{handed}
+use Rattle.claims.proofs.WhereMet.{line-met, tallied-met, log-met}
 use Rattle.claims.proofs.OtherCalls.{start-met, start-kept, report-met, report-kept, relate-met, compose-met, converse-met, next-met, parse-met}
+use Rattle.claims.proofs.Untouched.{untouched-bytes}
 
 -- ── numbers ──
-rule-range : (file : List ℕ) (n : ℕ) → ruleOf file ≡ RuleRead.Refused n → (1 ≤ n) × (n ≤ 10)
+pub rule-range : (file : List ℕ) (n : ℕ) → ruleOf file ≡ RuleRead.Refused n → (1 ≤ n) × (n ≤ 10)
 rule-range file n e = reads-rule file (RuleRead.Refused n) (sym e) .refused n refl
 
 rule-number : (file : List ℕ) (n : ℕ) → ruleOf file ≡ RuleRead.Refused n → Listed n
@@ -122,27 +141,34 @@ tallied-kept file r y w line k h =
     go (RuleRead.Rule x) q s = tally-state r y w file x line k (h (record { long = s; rule = x; taken = q }))
 
 -- ── a whole log ──
-abbrev LogKept : List ℕ → List ℕ → List ℕ → List ℕ → ℕ → ℕ → Type 0
-LogKept file log w out c n = Listed c × LogRefused file log w out c n (logOf file log w out .0) (logOf file log w out .1) (logOf file log w out .2)
+-- before any line is read, or at the first line that is refused
+data LogRefused (file log w out : List ℕ) (c n : ℕ) (a : LogRead) (w′ out′ : List ℕ) : Type 0 where
+  untouched : n ≡ 0 → a ≡ notRead c → w′ ≡ w → out′ ≡ out → LogRefused file log w out c n a w′ out′
+  at-line : (f : LineAt log n) → a ≡ ended (f .trace) (Ending.Refused c n)
+      → logOf file (f .before) w out ≡ (ended (f .trace) Ending.Read, w′, out′)
+      → LogRefused file log w out c n a w′ out′
 
-log-of-kept : (file log w out : List ℕ) (c n : ℕ) → logOf file log w out .0 .ending ≡ Ending.Refused c n → LogKept file log w out c n
+abbrev KeptLog : List ℕ → List ℕ → List ℕ → List ℕ → ℕ → ℕ → Type 0
+KeptLog file log w out c n = Listed c × LogRefused file log w out c n (logOf file log w out .0) (logOf file log w out .1) (logOf file log w out .2)
+
+log-of-kept : (file log w out : List ℕ) (c n : ℕ) → logOf file log w out .0 .ending ≡ Ending.Refused c n → KeptLog file log w out c n
 unfolding logOf withRule first-refused
 log-of-kept file log w out c n e =
     either-bool (ltb (length w) workSize || ltb (length out) 256)
     (λ s. not-touched 20 (omega arith) (simp s))
     (λ s. go (ruleOf file) refl s)
   where
-    not-touched : (m : ℕ) → Listed m → logOf file log w out ≡ (notRead m, w, out) → LogKept file log w out c n
+    not-touched : (m : ℕ) → Listed m → logOf file log w out ≡ (notRead m, w, out) → KeptLog file log w out c n
     not-touched m l q =
         let p = same-ending c m n 0 (sym (ap (λ (z : End). z .0 .ending) q) ∙ e) in
-        (omega (arith, l, p .0), unread (sym (p .1)) (ap (λ (z : End). z .0) q ∙ ap notRead (p .0)) (ap (λ (z : End). z .1) q) (ap (λ (z : End). z .2) q))
+        (omega (arith, l, p .0), untouched (sym (p .1)) (ap (λ (z : End). z .0) q ∙ ap notRead (p .0)) (ap (λ (z : End). z .1) q) (ap (λ (z : End). z .2) q))
 
     -- the rule is taken and the buffers are long enough: the lines are read
     read-first : (l : List ℕ) (x : Rule) → ruleOf file ≡ RuleRead.Rule x → ltb (length w) workSize || ltb (length out) 256 ≡ false
         → logOf file l w out ≡ linesFrom file x noTrace (linesOf l) w out
     read-first l x r s = simp s (ap (λ (z : RuleRead). withRule {A = End} z (λ n. (notRead n, w, out)) (λ x. linesFrom file x noTrace (linesOf l) w out)) r)
 
-    go : (q : RuleRead) → ruleOf file ≡ q → ltb (length w) workSize || ltb (length out) 256 ≡ false → LogKept file log w out c n
+    go : (q : RuleRead) → ruleOf file ≡ q → ltb (length w) workSize || ltb (length out) 256 ≡ false → KeptLog file log w out c n
     go (RuleRead.Refused m) r s =
         not-touched m (rule-number file m r)
         (simp s (ap (λ (z : RuleRead). withRule {A = End} z (λ n. (notRead n, w, out)) (λ x. linesFrom file x noTrace (linesOf log) w out)) r))
@@ -155,53 +181,72 @@ log-of-kept file log w out c n e =
         let z = q ∙ g .answer in
         let l = line-number (g .trace) (g .line) c (g .why) in (
           omega arith,
-          stopped (first-refused file x w log out c n g) (ap (λ (y : End). y .0) z)
+          at-line (first-refused file x w log out c n g) (ap (λ (y : End). y .0) z)
               (k ∙ (λ i. (ended (g .trace) Ending.Read, sym (ap (λ (y : End). y .1) z) i, sym (ap (λ (y : End). y .2) z) i))),
         )
 
 -- ── what the contracts say ──
-line-by : (file : List ℕ) (r : Record) (w line : List ℕ) (a : Checked) (w′ : List ℕ) → ChecksLine file r w line a w′
-    → (c : ℕ) → a .outcome ≡ Refused c → Listed c × (a ≡ refusing r c) × (w′ ≡ w)
-line-by file r w line a w′ h c e =
-    let k = handed file r w (h .decided) in
-    let z : LineKept r w (a, w′) = subst (LineKept r w) (sym (h .answer (k .0) (k .1))) (line-kept file r w line (k .0) (k .1)) in
-    let y = z c e in
-    (y .0, ap (λ (z : Checked × List ℕ). z .0) (y .1), ap (λ (z : Checked × List ℕ). z .1) (y .1))
+module _ (k : LineCall) (c : ℕ) where
+  line-by : k .answer .outcome ≡ Refused c → Listed c × (k .answer ≡ refusing (k .state) c) × (k .work′ ≡ k .work)
+  line-by e =
+      let h = handed (k .file) (k .state) (k .work) (k .checks .decided) in
+      let z : LineKept (k .state) (k .work) (k .answer, k .work′) = subst (LineKept (k .state) (k .work)) (sym (k .checks .answer (h .0) (h .1))) (line-kept (k .file) (k .state) (k .work) (k .line) (h .0) (h .1)) in
+      let y = z c e in
+      (y .0, ap (λ (z : Checked × List ℕ). z .0) (y .1), ap (λ (z : Checked × List ℕ). z .1) (y .1))
 
-tallied-by : (file : List ℕ) (r : Record) (y : Tally) (w line : List ℕ) (a : Tallied) (w′ : List ℕ) → ChecksTallied file r y w line a w′
-    → (c : ℕ) → a .outcome ≡ Refused c → Listed c × (a ≡ refusingWith r y c) × (w′ ≡ w)
-tallied-by file r y w line a w′ h c e =
-    let k = handed file r w (h .decided) in
-    let z : TallyKept r y w (a, w′) = subst (TallyKept r y w) (sym (h .answer (k .0) (k .1))) (tallied-kept file r y w line (k .0) (k .1)) in
-    let q = z c e in
-    (q .0, ap (λ (z : Tallied × List ℕ). z .0) (q .1), ap (λ (z : Tallied × List ℕ). z .1) (q .1))
+module _ (k : TalliedCall) (c : ℕ) where
+  tallied-by : k .answer .outcome ≡ Refused c → Listed c × (k .answer ≡ refusingWith (k .state) (k .tally) c) × (k .work′ ≡ k .work)
+  tallied-by e =
+      let h = handed (k .file) (k .state) (k .work) (k .checks .decided) in
+      let z : TallyKept (k .state) (k .tally) (k .work) (k .answer, k .work′) = subst (TallyKept (k .state) (k .tally) (k .work)) (sym (k .checks .answer (h .0) (h .1))) (tallied-kept (k .file) (k .state) (k .tally) (k .work) (k .line) (h .0) (h .1)) in
+      let q = z c e in
+      (q .0, ap (λ (z : Tallied × List ℕ). z .0) (q .1), ap (λ (z : Tallied × List ℕ). z .1) (q .1))
 
-log-by : (file log w out : List ℕ) (a : LogRead) (w′ out′ : List ℕ) → ChecksLog file log w out a w′ out′
-    → (c n : ℕ) → a .ending ≡ Ending.Refused c n → Listed c × LogRefused file log w out c n a w′ out′
-log-by file log w out a w′ out′ h c n =
-    subst (λ (z : End). z .0 .ending ≡ Ending.Refused c n → Listed c × LogRefused file log w out c n (z .0) (z .1) (z .2)) (sym (h .answer)) (log-of-kept file log w out c n)
+module _ (k : LogCall) (c n : ℕ) where
+  log-refused : k .answer .ending ≡ Ending.Refused c n → Listed c × LogRefused (k .file) (k .log) (k .work) (k .verdicts) c n (k .answer) (k .work′) (k .verdicts′)
+  log-refused =
+      subst (λ (z : End). z .0 .ending ≡ Ending.Refused c n → Listed c × LogRefused (k .file) (k .log) (k .work) (k .verdicts) c n (z .0) (z .1) (z .2)) (sym (k .checks .answer)) (log-of-kept (k .file) (k .log) (k .work) (k .verdicts) c n)
+
+  kept-call : LogRefused (k .file) (k .log) (k .work) (k .verdicts) c n (k .answer) (k .work′) (k .verdicts′) → LogKept k c n
+  kept-call (untouched a b d e) = unread a b d e
+  kept-call (at-line f a b) = stopped f a b
+
+relate-listed : (r : Record) (a b c : ℕ) → MetRelate r a b c → Listed c
+relate-listed r a b c (relate-unknown n e) = omega arith
+relate-listed r a b c (relate-unfinished log t k s f e) = omega arith
+relate-listed r a b c (relate-same log t k s f q e) = omega arith
+
+-- a call that is lent nothing
+lent-nothing : {A M : Type 0} (c : ℕ) → (A ↔ M) → (M → Listed c) → Refuses c A M (Unit {0})
+lent-nothing c m l = record { listed = λ e. l (m .0 e); just-where = m; changes-nothing = λ _. tt }
+
+bytes-met : (line : List ℕ) (c : ℕ) → (parsedOf line ≡ Parsed.Refused c) ↔ MetBytes line c
+bytes-met line c = (λ e. faulty-says line c .0 (parse-met line c .0 e), λ m. parse-met line c .1 (faulty-says line c .1 m))
+
+file-met : (file : List ℕ) (q : RuleRead) → ReadsRule file q → (c : ℕ) → (q ≡ RuleRead.Refused c) ↔ MetRule file c
+file-met file q h c = (λ e. rule-met file c .0 (sym (h .answer) ∙ e), λ m. h .answer ∙ rule-met file c .1 m)
 
 pub demand-1 : Demand1
 demand-1 =
     record {
-      line-met = line-met;
-      line-kept = line-by;
-      tallied-met = tallied-met;
-      tallied-kept = tallied-by;
-      log-met = log-met;
-      log-kept = log-by;
-      start-met = start-met;
-      start-kept = start-kept;
-      report-met = λ file log w out text a w′ out′ text′ h c. report-met w out text file log c a w′ out′ text′ h;
-      report-kept = λ file log w out text a w′ out′ text′ h c. report-kept w out text file log c a w′ out′ text′ h;
-      report-rule = λ file log w out text a w′ out′ text′ h n c p q. h .unruled n c p q;
-      relate-met = relate-met;
-      compose-met = compose-met;
-      converse-met = converse-met;
-      next-met = next-met;
-      next-kept = λ log p c e. ap (λ (n : Next). placeAfter n p) e;
-      parse-listed = λ line c e. event-refusal line c (parse-met line c .0 e);
-      parse-met = parse-met;
-      rule-met = λ file q h c. (λ e. sym (h .answer) ∙ e, λ e. h .answer ∙ e);
-      rule-listed = rule-range;
+      start = λ k c.
+          let m = start-met (k .work) (k .answer) (k .work′) (k .starts) c in
+          record { listed = λ e. omega (arith, m .0 e .1); just-where = m; changes-nothing = start-kept (k .work) (k .answer) (k .work′) (k .starts) c };
+      line = λ k c. record { listed = λ e. line-by k c e .0; just-where = line-met (k .file) (k .state) (k .work) (k .line) (k .answer) (k .work′) (k .checks) c; changes-nothing = λ e. (line-by k c e .1, line-by k c e .2) };
+      tallied = λ k c. record { listed = λ e. tallied-by k c e .0; just-where = tallied-met (k .file) (k .state) (k .tally) (k .work) (k .line) (k .answer) (k .work′) (k .checks) c; changes-nothing = λ e. (tallied-by k c e .1, tallied-by k c e .2) };
+      log = λ k c n. record { listed = λ e. log-refused k c n e .0; just-where = log-met (k .file) (k .log) (k .work) (k .verdicts) (k .answer) (k .work′) (k .verdicts′) (k .checks) c n; changes-nothing = λ e. kept-call k c n (log-refused k c n e .1) };
+      report = λ k c.
+          let m = report-met (k .work) (k .verdicts) (k .text) (k .file) (k .log) c (k .answer) (k .work′) (k .verdicts′) (k .text′) (k .reports) in
+          record {
+            listed = λ e. omega (arith, m .0 e .1);
+            just-where = (λ e. (λ l. m .0 e .0 (l .work, l .verdicts, l .text), m .0 e .1), λ p. m .1 (λ l. p .0 (record { work = l .0; verdicts = l .1; text = l .2 }), p .1));
+            changes-nothing = report-kept (k .work) (k .verdicts) (k .text) (k .file) (k .log) c (k .answer) (k .work′) (k .verdicts′) (k .text′) (k .reports);
+          };
+      relate = λ r a b v h c. lent-nothing c (relate-met r a b v h c) (relate-listed r (a .0) (b .0) c);
+      compose = λ a b v h c. lent-nothing c (compose-met a b v h c) (λ m. omega (arith, m .1));
+      converse = λ a v h c. lent-nothing c (converse-met a v h c) (λ m. omega (arith, m .1));
+      rule = λ file q h c. lent-nothing c (file-met file q h c) (λ m. rule-number file c (rule-met file c .1 m));
+      parse = λ line c. lent-nothing c (bytes-met line c) (λ m. let r = event-refusal line c (faulty-says line c .1 m) in omega arith);
+      next = λ log p c. record { listed = λ e. omega (arith, next-met log p c .0 e .2); just-where = next-met log p c; changes-nothing = λ e. ap (λ (n : Next). placeAfter n p) e };
+      untouched = untouched-bytes;
     }

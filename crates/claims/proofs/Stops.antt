@@ -19,11 +19,9 @@ use Rattle.reading.specs.declared.Ending.the-variants as Ending
 use Rattle.reading.specs.declared.LogRead.{LogRead}
 use Rattle.single.specs.Line.{judged}
 use Rattle.reading.specs.Reading.{ended}
-use Rattle.monitor.specs.Log.{linesFrom}
-use Rattle.monitor.proofs.Lines.{from-none, from-taken, from-refused}
+use Rattle.whole_log.specs.Log.{linesFrom, LineAt}
+use Rattle.whole_log.proofs.Lines.{from-none, from-taken, from-refused}
 use Rattle.reading.proofs.Lines.{lines-accepted, taken-lines}
-use Rattle.claims.specs.WhereMet.{FirstRefused}
-use Rattle.claims.proofs.AfterMet.{after-met}
 
 -- ── outcomes ──
 pub same-refusal : (c d : ℕ) → Refused d ≡ Refused c → d ≡ c
@@ -124,7 +122,7 @@ module _ (file : List ℕ) (x : Rule) (w : List ℕ) where
     pub start-number : n ≡ length (linesOf start-of) + 1
     start-number = omega (arith, g .at, g .counted, ap length start-lines)
 
-  unfoldable pub first-refused : (log out : List ℕ) (c n : ℕ) → Stopped noTrace (linesOf log) out c n → FirstRefused log c n
+  unfoldable pub first-refused : (log out : List ℕ) (c n : ℕ) → Stopped noTrace (linesOf log) out c n → LineAt log n
   first-refused log out c n g =
       record {
         before = start-of (linesOf log) out c n g;
@@ -134,5 +132,4 @@ module _ (file : List ℕ) (x : Rule) (w : List ℕ) where
         lines = start-divides (linesOf log) out c n g;
         accepted = start-accepted (linesOf log) out c n g;
         number = start-number (linesOf log) out c n g;
-        met = after-met (start-of (linesOf log) out c n g) (g .trace) (start-accepted (linesOf log) out c n g) (g .line) c .0 (g .why);
       }

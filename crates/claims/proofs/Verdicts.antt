@@ -1,55 +1,65 @@
--- Demand 2: what is noted and said after every accepted line.
-use Prim.Native.Nat.{ℕ, _≤_, _<_}
+-- Demand 2: what is noted and said after every accepted line, of what each call leaves.
+use Prim.Native.Nat.{ℕ, suc, _+_, _*_, _≤_, _<_}
 use mathlib.Core.Path.{_≡_, refl, ap, sym, _∙_, subst}
-use mathlib.Core.List.{List, [], _∷_}
+use mathlib.Core.Logic.{_≢_, _↔_}
+use mathlib.Core.List.{List, [], _∷_, _++_}
 use mathlib.Core.Bool.{true}
-use mathlib.Core.Option.{some}
-use lib.ListN.{length}
+use native.Mathlib.Omega.{arith}
+use lib.ListN.{length, getD, take}
 use borrow.Author.Tests.{lt-ltb, le-ltb}
-use Rattle.lists.proofs.Cases.{either-lt}
+use Rattle.lists.specs.Limits.{maxRuns, maxLines}
+use Rattle.lists.proofs.Cases.{either-lt, either-bool, no-both}
+use Rattle.lists.proofs.Lists.{append-nil}
 use Rattle.lines.specs.Log.{linesOf}
 use Rattle.trace.specs.declared.Record.{Record}
 use Rattle.trace.specs.declared.Run.{Run}
-use Rattle.trace.specs.Trace.{Trace, Answer, next, noTrace, read, steps, Accepted, step}
+use Rattle.trace.specs.Trace.{Trace, next, noTrace, read, steps, Accepted}
+use Rattle.trace.specs.Record.{recordOf}
+use Rattle.trace.proofs.Accepted.{accepted-orderly, one-line}
+use Rattle.trace.proofs.Grown.{no-bytes}
+use Rattle.trace.proofs.Size.{accepted-short}
 use Rattle.pairs.specs.Grid.{workSize}
 use Rattle.pairs.specs.declared.Started.{Started}
+use Rattle.pairs.specs.declared.Start.the-variants as Start
 use Rattle.pairs.specs.Pairs.{pairByte, workOf}
 use Rattle.pairs.specs.Start.{startOf}
 use Rattle.pairs.proofs.Grid.{getD-gridIn}
 use Rattle.pairs.proofs.Accepted.{pair-byte-names-the-order}
+use Rattle.relations.specs.Relation as Relation
+use Rattle.relations.specs.Runs.{FinishedRun, RelatesRuns}
+use Rattle.relations.specs.Pairs.{Noted}
 use Rattle.relations.proofs.Pairs.{pair-byte-noted}
-use Rattle.trace.proofs.Grown.{no-bytes}
 use Rattle.rules.specs.declared.Rule.{Rule}
 use Rattle.rules.specs.declared.RuleRead.the-variants as RuleRead
-use Rattle.rules.specs.Rules.{ruleOf, formulaOf, Taken}
-use Rattle.rules.proofs.Rules.{reads-rule}
+use Rattle.rules.specs.Rules.{ruleOf, formulaOf}
 use Rattle.logic.specs.declared.Verdict.{Verdict}
-use Rattle.logic.specs.Verdict.{verdictOf}
-use Rattle.single.specs.declared.Checked.{Checked}
-use Rattle.tallies.specs.declared.Tally.{Tally}
-use Rattle.tallies.specs.declared.Tallied.{Tallied}
-use Rattle.tallies.specs.Tally.{counts?, untallied, ChecksTallied}
+use Rattle.logic.specs.Satisfies.{Related}
+use Rattle.logic.specs.Verdict.{verdictByte, verdictOf, Says}
+use Rattle.single.specs.declared.Outcome.the-variants.{Refused}
+use Rattle.single.specs.Line.{judged}
+use Rattle.tallies.specs.Tally.{counts?, failed, tallyAfter, TallyCounts}
+use Rattle.reading.specs.declared.Ending.{Ending}
 use Rattle.reading.specs.declared.Ending.the-variants as Ending
 use Rattle.reading.specs.Left.{Left}
-use Rattle.single.specs.Line.{judged, lineAfter, stateOf, lineOf, TakenLine, ChecksLine}
-use Rattle.reading.specs.Reading.{ended}
-use Rattle.monitor.specs.Log.{linesFrom, logOf}
-use Rattle.monitor.specs.Repeated.{Result}
-use Rattle.single.proofs.LineMeans.{verdict-says}
-use Rattle.single.proofs.LineCall.{with-taken}
 use Rattle.reading.proofs.Settled.{work-over}
-use Rattle.trace.proofs.Taken.{by-answer}
-use Rattle.monitor.proofs.Lines.{from-none, from-taken}
-use Rattle.reading.proofs.Lines.{same-trace, after-line, no-line}
 use Rattle.reading.proofs.Standing.{pairs-long}
-use Rattle.tallies.proofs.TallyLaws.{tallied-is-line}
-use Rattle.monitor.proofs.Repeated.{left-by}
+use Rattle.whole_log.proofs.Repeated.{left-by, log-is-repeated-line}
+use Rattle.whole_log.proofs.Verdicts.{verdicts-of-prefixes}
+use Rattle.whole_log.proofs.Cut.{first-bytes-decide}
+use Rattle.report.proofs.Cut.{first-bytes-decide-report}
 use Rattle.tallies.proofs.Failing.{tally-starts, tally-taken}
-use Rattle.claims.specs.Demands.{Settled, GoesOn, Demand2}
+use Rattle.report.specs.Calls.{StartCall, LineCall, TalliedCall, LogCall, ReportCall}
+use Rattle.claims.specs.WhereMet.{wrong, then}
+use Rattle.report.specs.Settled.{Notes, Settled, Judged, Reads}
+use Rattle.claims.specs.Demand2.{Demand2}
+use Rattle.claims.proofs.Stops.{not-judged, same-ending}
+use Rattle.grammar.specs.Stands.{RuleFile}
+use Rattle.grammar.proofs.Stands.{rule-says, rule-file-taken}
+use Rattle.accepted_logs.proofs.Spoken.{accepted-spoken, accepting}
+use Rattle.claims.proofs.Fronts.{taken-ruled}
+use Rattle.claims.proofs.WhereMet.{counts-says, tallied-met}
 
-rule-taken : (file : List ℕ) (x : Rule) → ruleOf file ≡ RuleRead.Rule x → Taken file x
-rule-taken file x e = reads-rule file (RuleRead.Rule x) (sym e) .taken x refl
-
+-- ── pair bytes ──
 no-pair : (rs : List Run) (j k : ℕ) → ((j < k) × (k < length rs) → ⊥) → pairByte rs j k ≡ 0
 unfolding pairByte
 no-pair rs j k n =
@@ -57,84 +67,139 @@ no-pair rs j k n =
     (λ h. either-lt k (length rs) (λ l. absurd (n (h, l))) (λ l. simp (lt-ltb _ _ h, le-ltb _ _ l)))
     (λ h. simp (le-ltb _ _ h))
 
-settled : (file : List ℕ) (x : Rule) → ruleOf file ≡ RuleRead.Rule x → (log : List ℕ) (t : Trace) → Accepted log t → Settled file x t (verdictOf t (formulaOf file x))
-settled file x e log t a =
+-- what a byte notes of two runs, in the words of the logic
+in-words : (t : Trace) (a b byte n : ℕ) (r : Relation.Relation) → ((byte ≡ n) ↔ (FinishedRun t a × FinishedRun t b × RelatesRuns r t a b)) → (byte ≡ n) ↔ Related r t a b
+in-words t a b byte n r e = (
+  (λ p. let k = e .0 p in record { first = k .0; second = k .1; relates = k .2 }),
+  (λ k. e .1 (k .first, k .second, k .relates)),
+)
+
+byte-notes : (log : List ℕ) (t : Trace) → Accepted log t → (a b : ℕ) → Notes t a b (pairByte (t .runs) a b)
+byte-notes log t h a b =
+    let n : Noted t a b = pair-byte-noted log t h a b in
     record {
-      place = λ w j k h l. getD-gridIn (pairByte (t .runs)) w j k h l;
-      noted = λ j k. pair-byte-noted log t a j k;
-      order = pair-byte-names-the-order log t a;
-      nothing = no-pair (t .runs);
-      verdict = verdict-says file x (rule-taken file x e) t;
+      is-before = in-words t a b _ 5 Relation.before (n .is-before);
+      is-overlaps = in-words t a b _ 6 Relation.overlaps (n .is-overlaps);
+      is-includes = in-words t a b _ 7 Relation.includes (n .is-includes);
+      order = pair-byte-names-the-order log t h a b;
+      otherwise = no-pair (t .runs) a b;
     }
 
--- a record that is started is that of the log of no bytes
-started : (w : List ℕ) (a : Started) (w′ : List ℕ) → _≡_ {A = Started × List ℕ} (a, w′) (startOf w) → workSize ≤ length w → Left [] noTrace (a .state) w′
+-- what accepted lines leave is settled
+pub left-settled : (log : List ℕ) (t : Trace) (r : Record) (w : List ℕ) → Left log t r w → Settled log r w
+left-settled log t r w l =
+    record {
+      trace = t;
+      left = l;
+      notes = λ a b h k.
+          subst (Notes t a b)
+          (sym (ap (λ (z : List ℕ). getD z (maxRuns * a + b) 0) (l .pairs) ∙ getD-gridIn (pairByte (t .runs)) w a b h k))
+          (byte-notes log t (l .accepted) a b);
+    }
+
+-- the pair bytes of a buffer, once written, are those of what is there
+over : (log : List ℕ) (t : Trace) (r : Record) (w w′ : List ℕ) → Accepted log t → r ≡ recordOf t → w′ ≡ workOf (t .runs) w → Left log t r w′
+over log t r w w′ a s p =
+    record { accepted = a; encoded = s; pairs = p ∙ (sym (work-over (t .runs) (t .runs) w) ∙ ap (workOf (t .runs)) (sym p)) }
+
+-- ── starting a record ──
+not-ready : {C : Type 0} (c : ℕ) → Start.Refused c ≡ Start.Ready → C
+not-ready c e = absurd (let z : _≡_ {A = ℕ} 0 1 = cc in omega arith)
+
+started : (w : List ℕ) → startOf w .0 .outcome ≡ Start.Ready → Settled [] (startOf w .0 .state) (startOf w .1)
 unfolding startOf
-started w a w′ e h =
-    subst (λ (z : Started × List ℕ). Left [] noTrace (z .0 .state) (z .1)) (sym e) (simp (le-ltb _ _ h) (left-by [] noTrace no-bytes w))
+started w =
+    either-lt (length w) workSize
+    (λ s. simp (lt-ltb (length w) workSize s) (λ e. not-ready 20 e))
+    (λ s. simp (le-ltb (length w) workSize s) (λ e. left-settled [] noTrace _ _ (left-by [] noTrace no-bytes w)))
 
--- what a taken line leaves can be handed to the next call
-line-goes-on : (file : List ℕ) (x : Rule) → ruleOf file ≡ RuleRead.Rule x → (log : List ℕ) (t : Trace) (r : Record) (w line : List ℕ) → Left log t r w
-    → (a : Checked) (w′ : List ℕ) → ChecksLine file r w line a w′ → (v : Verdict) → a .outcome ≡ judged v → GoesOn file x log line w v (a .state) w′
-line-goes-on file x e log t r w line l a w′ h v o =
-    let k : TakenLine file x log line w v (a .state) w′ = h .meaning x e log t l .taken v o in
-    record {
-      taken = k;
-      left = record {
-        accepted = k .accepted;
-        encoded = k .state;
-        pairs = k .pairs ∙ (sym (work-over (k .trace .runs) (k .trace .runs) w) ∙ ap (workOf (k .trace .runs)) (sym (k .pairs)));
-      };
-    }
+-- ── one line ──
+module _ (k : LineCall) (x : Rule) (rule : ruleOf (k .file) ≡ RuleRead.Rule x) (log : List ℕ) (t : Trace) (l : Left log t (k .state) (k .work)) (v : Verdict) (o : k .answer .outcome ≡ judged v) where
+  line-judged : Judged (k .file) x (log ++ k .line) (k .answer .state) (k .work′) v
+  unfolding left-settled
+  line-judged =
+      let m = k .checks .meaning x rule log t l .taken v o in
+      record { settled = left-settled _ (m .trace) _ _ (over _ (m .trace) _ (k .work) _ (m .accepted) (m .state) (m .pairs)); verdict = m .verdict }
 
-line-takes : (file : List ℕ) (x : Rule) → ruleOf file ≡ RuleRead.Rule x → (log : List ℕ) (t : Trace) (r : Record) (w line : List ℕ) → Left log t r w
-    → (a : Checked) (w′ : List ℕ) → ChecksLine file r w line a w′ → (u : Trace) → step (next t) line ≡ next u → a .outcome ≡ judged (verdictOf u (formulaOf file x))
-unfolding lineOf stateOf lineAfter
-line-takes file x e log t r w line l a w′ h u p =
-    let s : lineOf file r w line (some t) ≡ stateOf file x r w line (some t) = simp (le-ltb (length w) workSize (pairs-long (t .runs) w w (l .pairs))) (with-taken (ruleOf file) x _ _ e) in
-    ap (λ (z : Checked × List ℕ). z .0 .outcome) (h .answer (some t) (λ _. (log, l)) ∙ s) ∙ ap (λ (z : Answer). lineAfter file x t w z .0 .outcome) p
+module _ (k : TalliedCall) (x : Rule) (rule : ruleOf (k .file) ≡ RuleRead.Rule x) (log : List ℕ) (t : Trace) (l : Left log t (k .state) (k .work)) (v : Verdict) (o : k .answer .outcome ≡ judged v) where
+  -- a line that is taken does not meet 24
+  tally-right : counts? t (k .tally) ≡ true
+  tally-right =
+      either-bool (counts? t (k .tally))
+      (λ b. b)
+      (λ b.
+      let n = tallied-met (k .file) (k .state) (k .tally) (k .work) (k .line) (k .answer) (k .work′) (k .checks) 24 .1
+      (then (pairs-long (t .runs) (k .work) (k .work) (l .pairs)) (taken-ruled (k .file) x rule) log t l
+      (wrong (λ c. no-both (sym (counts-says t (k .tally) .1 c) ∙ b)) refl)) in
+      not-judged v 24 (sym o ∙ n))
 
-same-answers : (file : List ℕ) (log : List ℕ) (t : Trace) (r : Record) (y : Tally) (w line : List ℕ) → Left log t r w → counts? t y ≡ true
-    → (a : Tallied) (w′ : List ℕ) → ChecksTallied file r y w line a w′ → (b : Checked) (v : List ℕ) → ChecksLine file r w line b v → (untallied a ≡ b) × (w′ ≡ v)
-same-answers file log t r y w line l p a w′ h b v k =
-    let e : _≡_ {A = Checked × List ℕ} (untallied a, w′) (b, v) =
-    ap (λ (z : Tallied × List ℕ). (untallied (z .0), z .1)) (h .answer (some t) (λ _. (log, l))) ∙ (tallied-is-line file r y w line t p ∙ sym (k .answer (some t) (λ _. (log, l)))) in
-    (ap (λ (z : Checked × List ℕ). z .0) e, ap (λ (z : Checked × List ℕ). z .1) e)
+  tallied-judged : Judged (k .file) x (log ++ k .line) (k .answer .state) (k .work′) v × TallyCounts (log ++ k .line) (k .answer .tally) × (k .answer .tally .failing ≡ k .tally .failing + failed v)
+      × (k .tally ≡ tallyAfter (k .file) x log t → (u : Trace) → Accepted (log ++ k .line) u → k .answer .tally ≡ tallyAfter (k .file) x (log ++ k .line) u)
+  unfolding left-settled
+  tallied-judged =
+      let h = k .checks .meaning x rule log t l tally-right in
+      let m = h .single .taken v o in
+      (record { settled = left-settled _ (m .trace) _ _ (over _ (m .trace) _ (k .work) _ (m .accepted) (m .state) (m .pairs)); verdict = m .verdict }, h .counts v o, h .failing v o, λ p u a. h .goes-on p v o u a)
 
-module _ (file : List ℕ) (x : Rule) (w : List ℕ) where
-  -- lines that are taken are read to their end
-  to-end : (ls : List (List ℕ)) (t u : Trace) (out : List ℕ) → steps (next t) ls ≡ next u
-      → linesFrom file x t ls w out .0 ≡ ended u Ending.Read
-  to-end [] t u out e =
-      let f = from-none file x t w out in
-      let g = same-trace t u e in
-      ap (λ (z : Result). z .0) f ∙ ap (λ (z : Trace). ended z Ending.Read) g
-  to-end (l ∷ ls) t u out e =
-      by-answer t l
-      (λ v p.
-      let f = from-taken file x t l ls w out v p in
-      ap (λ (z : Result). z .0) f ∙ to-end ls v u _ (after-line t v u l ls p e))
-      (λ c p. no-line t u c l ls p e)
+-- ── a whole log ──
+some-left : (l : List ℕ) (ls : List (List ℕ)) → l ∷ ls ≢ []
+some-left l ls e = absurd (let z : _≡_ {A = ℕ} 0 1 = ap kept-count e in omega arith)
+  where
+    kept-count : List (List ℕ) → ℕ
+    kept-count [] = 1
+    kept-count (x ∷ xs) = 0
 
-log-read : (file : List ℕ) (x : Rule) → ruleOf file ≡ RuleRead.Rule x → (log : List ℕ) (t : Trace) → Accepted log t → (w out : List ℕ) → workSize ≤ length w → 256 ≤ length out
-    → logOf file log w out .0 ≡ ended t Ending.Read
-unfolding logOf read
-log-read file x e log t a w out long room =
-    let f : logOf file log w out ≡ linesFrom file x noTrace (linesOf log) w out = simp (le-ltb _ _ long, le-ltb _ _ room) (with-taken (ruleOf file) x _ _ e) in
-    ap (λ (z : Result). z .0) f ∙ to-end file x w (linesOf log) noTrace t out (a .leaves)
+not-read : {C : Type 0} (c n : ℕ) → Ending.Refused c n ≡ Ending.Read → C
+not-read c n e = absurd (let z : _≡_ {A = ℕ} 0 1 = cc in omega arith)
+
+module _ (k : LogCall) (x : Rule) (rule : ruleOf (k .file) ≡ RuleRead.Rule x) (long : workSize ≤ length (k .work)) (room : maxLines ≤ length (k .verdicts)) where
+  line-verdicts : (n : ℕ) (part : List ℕ) (u : Trace) → n < length (linesOf (k .log)) → linesOf part ≡ take (suc n) (linesOf (k .log)) → Accepted part u
+      → (v : Verdict) × (getD (k .verdicts′) n 0 ≡ verdictByte v) × Says u (formulaOf (k .file) x) v
+  unfolding read
+  line-verdicts n part u h e a =
+      let b = k .checks .meaning x rule long room .verdicts n u h (ap (steps (next noTrace)) (sym e) ∙ a .leaves) in
+      (verdictOf u (formulaOf (k .file) x), b .byte, b .verdict)
+
+  log-reads : (g : Ending) → k .answer .ending ≡ g → Reads k x
+  log-reads Ending.Read e =
+      let m = k .checks .meaning x rule long room .whole e in
+      record {
+        taken = k .log;
+        rest = [];
+        divides = sym (append-nil (linesOf (k .log)));
+        whole = λ _. refl;
+        stops = λ c n q. not-read c n (sym q ∙ e);
+        settled = left-settled _ (m .trace) _ _ (over _ (m .trace) _ (k .work) _ (m .accepted) (m .state) (m .pairs));
+        verdicts = line-verdicts;
+      }
+  log-reads (Ending.Refused c n) e =
+      let m = k .checks .meaning x rule long room .stops c n e in
+      record {
+        taken = m .first .before;
+        rest = m .first .line ∷ m .first .after;
+        divides = m .first .lines;
+        whole = λ q. not-read c n (sym e ∙ q);
+        stops = λ d i q. (some-left _ _, sym (same-ending d c i n (sym e ∙ q) .1) ∙ m .first .number);
+        settled = left-settled _ (m .first .trace) _ _ (over _ (m .first .trace) _ (k .work) _ (m .first .accepted) (m .state) (m .pairs));
+        verdicts = line-verdicts;
+      }
 
 pub demand-2 : Demand2
 demand-2 =
     record {
-      settled = settled;
-      start = started;
-      line = line-goes-on;
-      takes = line-takes;
-      tallied-same = same-answers;
-      tallied = λ file x e log t r y w line l p a w′ h. h .meaning x e log t l p;
+      rule = λ file f. (rule-file-taken file f, λ p. subst (RuleFile file) (p .2) (rule-says file (p .0) (p .1)));
+      start = λ k e. subst (λ (z : Started × List ℕ). z .0 .outcome ≡ Start.Ready → Settled [] (z .0 .state) (z .1)) (sym (k .starts)) (started (k .work)) e;
+      line = line-judged;
+      tallied = tallied-judged;
       zeros = tally-starts;
-      counted = tally-taken;
-      log = λ file x e log w out long room a w′ out′ h. h .meaning x e long room;
-      report = λ file x e log w out text a w′ out′ text′ h n p. h .meaning n x p e;
-      read = λ file x e log t k w out long room a w′ out′ h. ap (λ (z : Result). z .0) (h .answer) ∙ log-read file x e log t k w out long room;
+      relate = λ r a b v h log t k e. h .known log t k e .relation;
+      counts = λ file x log t a. counts-says t _ .0 (tally-taken file x log t a);
+      log = λ k x e long room. log-reads k x e long room (k .answer .ending) refl;
+      report = λ k n e. (λ x p. k .reports .meaning n x e p, λ c p. k .reports .unruled n c e p);
+      repeats = log-is-repeated-line;
+      prefixes = λ file w out log part n e h u a. verdicts-of-prefixes file w out log part n e h u a;
+      first-bytes = first-bytes-decide;
+      first-bytes-report = first-bytes-decide-report;
+      accepted = λ log t a. let o = accepted-orderly log t a in (o, one-line t o, accepted-spoken log t a, accepted-short log t a);
+      accepting = accepting;
     }

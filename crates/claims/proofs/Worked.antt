@@ -6,9 +6,9 @@ use native.Mathlib.Omega.{arith}
 use lib.ListN.{getD, set}
 use borrow.Author.Tests.{le-ltb}
 use Rattle.lists.specs.Lists.{bytes, pad}
-use Rattle.labels.specs.Label.{labelOf, sameLabel}
+use Rattle.labels.specs.Label.{labelOf, equalLabel?}
 use Rattle.labels.specs.Table.{indexOf, numberOf, withLabel}
-use Rattle.lines.specs.Line.{eventOf}
+use Rattle.lines.specs.Line.{value, eventOf}
 use Rattle.lines.specs.Log.{linesOf}
 use Rattle.trace.specs.declared.Run.{Run}
 use Rattle.trace.specs.Trace.{noTrace, step, applyTo, apply, beginRun, endRun, begin, end, endOf, close}
@@ -17,7 +17,7 @@ use Rattle.pairs.proofs.Grid.{getD-gridIn}
 use Rattle.relations.proofs.Examples.{examples}
 use Rattle.rules.specs.declared.Rule.{Rule}
 use Rattle.rules.specs.declared.RuleRead.the-variants as RuleRead
-use Rattle.rules.specs.Labels.{placeOf}
+use Rattle.rules.specs.Labels.{labelStart}
 use Rattle.rules.specs.Table.{tree, formulaAt}
 use Rattle.rules.specs.Rules.{ruleOf}
 use Rattle.rules.specs.Cases.{p1File, p1Rule, p10File, p10Rule}
@@ -26,12 +26,14 @@ use Rattle.logic.specs.Model.{eval}
 use Rattle.logic.specs.Verdict.{verdictOf}
 use Rattle.reading.specs.declared.Ending.the-variants as Ending
 use Rattle.reading.specs.Reading.{byAnswer, ended}
-use Rattle.monitor.specs.Log.{linesFrom, logOf}
-use Rattle.monitor.specs.Repeated.{Result}
-use Rattle.tallies.specs.Tally.{tallyOf, finishedRuns, failingFrom, tallyAfter}
+use Rattle.whole_log.specs.Log.{linesFrom, logOf}
+use Rattle.whole_log.specs.Repeated.{Result}
+use Rattle.trace.specs.Orderly.{finishedRuns}
+use Rattle.tallies.specs.Tally.{tallyOf, failingFrom, tallyAfter}
 use Rattle.single.proofs.LineCall.{with-taken}
 use Rattle.report.proofs.Examples.{p1-output}
-use Rattle.claims.specs.Cases.{Long, pairByte1, p1Log, p1Run, p1Trace, P1, P9, P10, Cases}
+use Rattle.whole_log.specs.Cases.{Long, pairByte1, p1Log, p1Run, p1Trace}
+use Rattle.claims.specs.Cases.{P1, P9, P10, Numbers, Cases}
 
 -- the call reads the lines
 reads : (file : List ℕ) (x : Rule) → ruleOf file ≡ RuleRead.Rule x → (log w out : List ℕ) → Long w out → logOf file log w out ≡ linesFrom file x noTrace (linesOf log) w out
@@ -40,11 +42,11 @@ reads file x e log w out h = simp (le-ltb _ _ (h .work), le-ltb _ _ (h .verdicts
 
 -- ── P1 ──
 p1-lines : (w out : List ℕ) → linesFrom p1File p1Rule noTrace (linesOf p1Log) w out ≡ (ended p1Trace Ending.Read, workOf (p1Trace .runs) w, set (set (set (set out 0 1) 1 1) 2 1) 3 0)
-unfolding linesFrom byAnswer verdictOf eval tree formulaAt placeOf step applyTo apply eventOf beginRun withLabel labelOf pad indexOf begin sameLabel numberOf endRun endOf end close
+unfolding linesFrom byAnswer verdictOf eval tree formulaAt labelStart step applyTo apply eventOf beginRun withLabel labelOf pad indexOf begin equalLabel? numberOf endRun endOf end close
 p1-lines w out = refl
 
 p1-failing : failingFrom p1File p1Rule noTrace (linesOf p1Log) ≡ 1
-unfolding failingFrom byAnswer verdictOf eval tree formulaAt placeOf step applyTo apply eventOf beginRun withLabel labelOf pad indexOf begin sameLabel numberOf endRun endOf end close
+unfolding failingFrom byAnswer verdictOf eval tree formulaAt labelStart step applyTo apply eventOf beginRun withLabel labelOf pad indexOf begin equalLabel? numberOf endRun endOf end close
 p1-failing = refl
 
 p1-tally : tallyAfter p1File p1Rule p1Log p1Trace ≡ record { lines = 4; begun = 2; finished = 2; running = 0; failing = 1 }
@@ -57,7 +59,7 @@ byte-of log rs w out h e =
     ap (λ (z : Result). getD (z .1) 1 0) (reads p1File p1Rule p1-taken log w out h) ∙ (ap (λ (z : List ℕ). getD z 1 0) e ∙ getD-gridIn (pairByte rs) w 0 1 (omega arith) (omega arith))
 
 p1-case : P1
-unfolding linesFrom byAnswer step applyTo apply eventOf beginRun withLabel labelOf pad indexOf begin sameLabel numberOf endRun endOf end close pairByte pairSet
+unfolding linesFrom byAnswer step applyTo apply eventOf beginRun withLabel labelOf pad indexOf begin equalLabel? numberOf endRun endOf end close pairByte pairSet
 p1-case =
     record {
       size = refl;
@@ -74,14 +76,14 @@ p1-case =
 
 -- ── P9 and P10 ──
 p9-lines : (w out : List ℕ) → linesFrom p1File p1Rule noTrace (linesOf (bytes "B 1 TEST\nE 1\n")) w out .2 ≡ set (set out 0 1) 1 1
-unfolding linesFrom byAnswer verdictOf eval tree formulaAt placeOf step applyTo apply eventOf beginRun withLabel labelOf pad indexOf begin sameLabel numberOf endRun endOf end close
+unfolding linesFrom byAnswer verdictOf eval tree formulaAt labelStart step applyTo apply eventOf beginRun withLabel labelOf pad indexOf begin equalLabel? numberOf endRun endOf end close
 p9-lines w out = refl
 
 p9-case : P9
 p9-case w out h = ap (λ (z : Result). z .2) (reads p1File p1Rule p1-taken (bytes "B 1 TEST\nE 1\n") w out h) ∙ p9-lines w out
 
 p10-lines : (w out : List ℕ) → linesFrom p10File p10Rule noTrace (linesOf (bytes "B 1\nE 1\n")) w out .2 ≡ set (set out 0 0) 1 0
-unfolding linesFrom byAnswer verdictOf eval tree formulaAt placeOf step applyTo apply eventOf beginRun withLabel labelOf pad indexOf begin sameLabel numberOf endRun endOf end close
+unfolding linesFrom byAnswer verdictOf eval tree formulaAt labelStart step applyTo apply eventOf beginRun withLabel labelOf pad indexOf begin equalLabel? numberOf endRun endOf end close
 p10-lines w out = refl
 
 p10-case : P10
@@ -92,5 +94,9 @@ p10-case =
       verdicts = λ w out h. ap (λ (z : Result). z .2) (reads p10File p10Rule p10-taken (bytes "B 1\nE 1\n") w out h) ∙ p10-lines w out;
     }
 
+the-numbers : Numbers
+unfolding value
+the-numbers = record { most = refl; in-order = refl; holds = (refl, refl); fails = (refl, refl) }
+
 pub the-cases : Cases
-the-cases = record { p1 = p1-case; p2-to-p8 = examples; p9 = p9-case; p10 = p10-case }
+the-cases = record { p1 = p1-case; p2-to-p8 = examples; p9 = p9-case; p10 = p10-case; numbers = the-numbers }

@@ -1,42 +1,25 @@
 -- The worked cases P1 to P10, of the definitions that the calls' contracts name.
-use Prim.Native.Nat.{ℕ, _≤_}
+use Prim.Native.Nat.{ℕ}
 use mathlib.Core.Path.{_≡_}
-use mathlib.Core.List.{List, [], _∷_}
-use lib.ListN.{length, getD, set}
+use mathlib.Core.List.{List}
+use lib.ListN.{length, set}
 use Rattle.lists.specs.Lists.{bytes}
-use Rattle.labels.specs.Label.{labelNo, labelOf}
-use Rattle.trace.specs.declared.Run.{Run}
-use Rattle.trace.specs.Trace.{Trace, line}
-use Rattle.pairs.specs.Grid.{workSize}
+use Rattle.lines.specs.Line.{value}
 use Rattle.pairs.specs.Pairs.{workOf}
 use Rattle.relations.specs.Compose.{Examples}
 use Rattle.rules.specs.declared.RuleRead.the-variants as RuleRead
 use Rattle.rules.specs.Rules.{ruleOf, formulaOf}
 use Rattle.rules.specs.Cases.{p1File, p1Rule, noEveningIncludesTest, p10File, p10Rule, someSameAsItself}
+use Rattle.logic.specs.declared.Verdict.the-variants as Verdict
+use Rattle.logic.specs.Verdict.{verdictByte}
+use Rattle.single.specs.declared.Outcome.the-variants as Outcome
+use Rattle.single.specs.Line.{judged}
 use Rattle.reading.specs.declared.Ending.the-variants as Ending
 use Rattle.reading.specs.Reading.{ended}
-use Rattle.monitor.specs.Log.{logOf}
+use Rattle.whole_log.specs.Log.{logOf}
+use Rattle.whole_log.specs.Cases.{Long, pairByte1, p1Log, p1Trace}
 use Rattle.tallies.specs.Tally.{tallyAfter}
 use Rattle.report.specs.Text.{reportText}
-
--- the buffers of a whole-log call are long enough
-pub record Long (w out : List ℕ) : Type 0 where
-  pub work : workSize ≤ length w
-  pub verdicts : 256 ≤ length out
-
--- pair byte 1, run 0 with run 1, after P1's rule and a log
-abbrev pub pairByte1 : List ℕ → List ℕ → List ℕ → ℕ
-pairByte1 log w out = getD (logOf p1File log w out .1) 1 0
-
--- "Log lines `B 7 EVENING`, `B 9 TEST`, `E 9`, `E 7`", and what they leave
-abbrev pub p1Log : List ℕ
-p1Log = bytes "B 7 EVENING\nB 9 TEST\nE 9\nE 7\n"
-
-abbrev pub p1Run : ℕ → ℕ → ℕ → ℕ → Run
-p1Run i b e k = record { id = i; begin = line b; end = line e; label = labelNo k }
-
-abbrev pub p1Trace : Trace
-p1Trace = record { runs = p1Run 7 1 4 1 ∷ p1Run 9 2 3 2 ∷ []; labels = labelOf (bytes "EVENING") ∷ labelOf (bytes "TEST") ∷ []; lines = 4 }
 
 pub record P1 : Type 0 where
   pub size : length p1File ≡ 44
@@ -44,10 +27,12 @@ pub record P1 : Type 0 where
   pub formula : formulaOf p1File p1Rule ≡ noEveningIncludesTest
   -- H, H, H, F
   pub verdicts : (w out : List ℕ) → Long w out
-      → logOf p1File p1Log w out ≡ (ended p1Trace Ending.Read, workOf (p1Trace .runs) w, set (set (set (set out 0 1) 1 1) 2 1) 3 0)
+      → logOf p1File p1Log w out
+      ≡ (ended p1Trace Ending.Read, workOf (p1Trace .runs) w, set (set (set (set out 0 1) 1 1) 2 1) 3 0)
   -- "Whole output"
   pub output : reportText p1File p1Log ≡ bytes "1 H\n2 H\n3 H\n4 F\nT 4 2 2 0 1\n"
-  pub tally : tallyAfter p1File p1Rule p1Log p1Trace ≡ record { lines = 4; begun = 2; finished = 2; running = 0; failing = 1 }
+  pub tally : tallyAfter p1File p1Rule p1Log p1Trace
+      ≡ record { lines = 4; begun = 2; finished = 2; running = 0; failing = 1 }
   -- "Pair byte 1 (run 0 with run 1) is 0, 1, 4, 7 after the four lines."
   pub byte-1 : (w out : List ℕ) → Long w out → pairByte1 (bytes "B 7 EVENING\n") w out ≡ 0
   pub byte-2 : (w out : List ℕ) → Long w out → pairByte1 (bytes "B 7 EVENING\nB 9 TEST\n") w out ≡ 1
@@ -64,10 +49,18 @@ pub record P10 : Type 0 where
   pub formula : formulaOf p10File p10Rule ≡ someSameAsItself
   pub verdicts : (w out : List ℕ) → Long w out → logOf p10File (bytes "B 1\nE 1\n") w out .2 ≡ set (set out 0 0) 1 0
 
+-- how an id's digits are read, and how a verdict is told
+pub record Numbers : Type 0 where
+  pub most : value (bytes "65535") ≡ 65535
+  pub in-order : value (bytes "120") ≡ 120
+  pub holds : (judged Verdict.Holds ≡ Outcome.Holds) × (verdictByte Verdict.Holds ≡ 1)
+  pub fails : (judged Verdict.Fails ≡ Outcome.Fails) × (verdictByte Verdict.Fails ≡ 0)
+
 pub record Cases : Type 0 where
   pub p1 : P1
-  -- "P2 before, before: 1. P3 before, after: 63. P4 overlaps, overlaps: 5. P5 before, during: 37. P6 overlaps, includes: 21. P7 includes,
-  -- during: 60. P8 set 0 with 63: 0."
+  -- "P2 before, before: 1. P3 before, after: 63. P4 overlaps, overlaps: 5. P5 before, during: 37. P6 overlaps,
+  -- includes: 21. P7 includes, during: 60. P8 set 0 with 63: 0."
   pub p2-to-p8 : Examples
   pub p9 : P9
   pub p10 : P10
+  pub numbers : Numbers

@@ -1,3 +1,6 @@
 pub mod WhereMet
+pub mod Demand1
+pub mod Demand2
 pub mod Demands
+pub mod Lessons
 pub mod Cases

@@ -11,7 +11,7 @@ use lib.Seq.{drop-cons}
 use borrow.Author.Tests.{le-leb, lt-leb, not-true, not-false}
 use Rattle.lists.specs.Lists.{all?}
 use Rattle.lists.proofs.Cases.{and-left, and-right}
-use Rattle.labels.specs.Label.{letter?, maxLabelBytes, labelLength?, labelForm?, label?}
+use Rattle.labels.specs.Label.{letter?, maxLabelBytes, labelLength?, labelForm?}
 
 -- ── the length ──
 module _ (s : List ℕ) where
@@ -41,6 +41,11 @@ form-end s i v e h = rw (drop-of-length-le s h) at e
 pub ruleset forms = (form-empty, form-long, form-first, form-next, form-stop, form-end)
 
 -- ── what a run has ──
+-- the bytes of a label, or no bytes at all where it has none
+unfoldable pub label? : List ℕ → Bool
+unfolding letter?
+label? l = leb (length l) maxLabelBytes && all? letter? l
+
 pub form-label : (s : List ℕ) → labelForm? s ≡ true → label? s ≡ true
 unfolding labelForm? label?
 form-label s e =

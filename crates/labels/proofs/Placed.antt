@@ -8,8 +8,8 @@ use lib.Dec.{eqb}
 use borrow.Author.Tests.{eq-eqb, ne-eqb}
 use Rattle.labels.specs.declared.Label.{Label}
 use Rattle.labels.specs.declared.Slot.the-variants.{Seen, Free}
-use Rattle.labels.specs.Label.{sameLabel}
-use Rattle.labels.specs.Table.{probe}
+use Rattle.labels.specs.Label.{equalLabel?}
+use Rattle.labels.specs.Search.{probe}
 use Rattle.lists.proofs.Cases.{either-eq, either-bool}
 use Rattle.labels.proofs.Same.{label-refl, label-eq}
 use Rattle.labels.proofs.Probe.{probe-free, probe-seen, probe-next}
@@ -23,12 +23,12 @@ module _ (pl : ℕ → ℕ) (lb : ℕ → Label) (s : Label) where
   meets zero p left i h k n here full e one =
       let a : (p + 0) % 128 ≡ p = omega arith in
       let at : pl p ≡ i = ap pl (sym a) ∙ here in
-      probe-seen pl lb s p left h (λ z. n (sym at ∙ z)) (ap (λ (j : ℕ). sameLabel (lb j) s) at ∙ (ap (λ (l : Label). sameLabel l s) e ∙ label-refl s))
+      probe-seen pl lb s p left h (λ z. n (sym at ∙ z)) (ap (λ (j : ℕ). equalLabel? (lb j) s) at ∙ (ap (λ (l : Label). equalLabel? l s) e ∙ label-refl s))
       ∙ ap (λ (j : ℕ). Seen (record { 0 = j })) at
   meets (suc d) p left i h k n here full e one =
       let a : (p + 0) % 128 ≡ p = omega arith in
       let m : (pl p ≡ 0 → ⊥) = λ z. full 0 (omega arith) (ap pl a ∙ z) in
-      either-bool (sameLabel (lb (pl p)) s)
+      either-bool (equalLabel? (lb (pl p)) s)
       (λ t. probe-seen pl lb s p left (omega arith) m t ∙ ap (λ (j : ℕ). Seen (record { 0 = j })) (one (pl p) m (label-eq (lb (pl p)) s t) p refl))
       (λ f. probe-next pl lb s p left (omega arith) m f
       ∙ meets d ((p + 1) % 128) (left - 1) i (omega arith) (omega arith) n
@@ -71,8 +71,8 @@ module _ (pl : ℕ → ℕ) (lb : ℕ → Label) (s : Label) where
       either-eq (pl p) 0
       (λ c. at-once p left k (omega arith) c)
       (λ m.
-      let f : sameLabel (lb (pl p)) s ≡ false =
-      either-bool (sameLabel (lb (pl p)) s) (λ t. absurd (none (pl p) m (label-eq (lb (pl p)) s t) p refl)) (λ g. g) in
+      let f : equalLabel? (lb (pl p)) s ≡ false =
+      either-bool (equalLabel? (lb (pl p)) s) (λ t. absurd (none (pl p) m (label-eq (lb (pl p)) s t) p refl)) (λ g. g) in
       let b : (j : ℕ) → ((p + 1) % 128 + j) % 128 ≡ (p + suc j) % 128 = λ j. omega arith in
       let r : Stops ((p + 1) % 128) (left - 1) = stops z (left - 1) ((p + 1) % 128) (omega arith) (omega arith) (ap pl (b z) ∙ e) none in
       record {

@@ -15,11 +15,12 @@ use Rattle.lists.proofs.Cases.{either-eq, either-lt, either-bool, no-both, and-
 use Rattle.lists.proofs.Tells.{tell-no}
 use Rattle.lists.proofs.Lists.{same-refl, same-eq, set-pad}
 use Rattle.labels.specs.declared.Label.{Label}
-use Rattle.labels.specs.Label.{letter?, label?, labelOf, text, noLabel, sameLabel, soundFrom, byteSound, sound?}
+use Rattle.labels.specs.Label.{letter?, labelOf, text, noLabel, equalLabel?, soundFrom, byteSound, sound?}
+use Rattle.labels.proofs.Form.{label?}
 
 -- ── equality ──
-pub label-eq : (x y : Label) → sameLabel x y ≡ true → x ≡ y
-unfolding sameLabel
+pub label-eq : (x y : Label) → equalLabel? x y ≡ true → x ≡ y
+unfolding equalLabel?
 label-eq x y e =
     either-eq (x .length) (y .length)
     (λ p. let f : same? (x .bytes) (y .bytes) ≡ true = simp (eq-eqb _ _ p) at e in
@@ -27,8 +28,8 @@ label-eq x y e =
     λ i. record { bytes = g i; length = p i })
     (λ p. let f : false ≡ true = simp (ne-eqb _ _ p) at e in no-both (sym f))
 
-pub label-refl : (x : Label) → sameLabel x x ≡ true
-unfolding sameLabel
+pub label-refl : (x : Label) → equalLabel? x x ≡ true
+unfolding equalLabel?
 label-refl x = simp (eq-eqb (x .length) (x .length) refl) (same-refl (x .bytes))
 
 -- two labels compared byte by byte
@@ -40,11 +41,11 @@ module _ (x y : Label) where
   bytes-decide b p t = record { yes = λ e. let q = t .yes e in λ i. record { bytes = q i; length = p i }; no = λ e q. t .no e (ap (λ (z : Label). z .bytes) q) }
 
 -- what a comparison says of the test in the definitions
-pub same-yes : (x y : Label) (b : Bool) → Tells b (x ≡ y) → b ≡ true → sameLabel x y ≡ true
-same-yes x y b t e = ap (sameLabel x) (sym (t .yes e)) ∙ label-refl x
+pub same-yes : (x y : Label) (b : Bool) → Tells b (x ≡ y) → b ≡ true → equalLabel? x y ≡ true
+same-yes x y b t e = ap (equalLabel? x) (sym (t .yes e)) ∙ label-refl x
 
-pub same-no : (x y : Label) (b : Bool) → Tells b (x ≡ y) → b ≡ false → sameLabel x y ≡ false
-same-no x y b t e = either-bool (sameLabel x y) (λ q. absurd (t .no e (label-eq x y q))) (λ q. q)
+pub same-no : (x y : Label) (b : Bool) → Tells b (x ≡ y) → b ≡ false → equalLabel? x y ≡ false
+same-no x y b t e = either-bool (equalLabel? x y) (λ q. absurd (t .no e (label-eq x y q))) (λ q. q)
 
 -- ── values that hold a label ──
 -- a label's form, byte by byte

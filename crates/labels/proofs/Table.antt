@@ -19,8 +19,9 @@ use Rattle.labels.specs.declared.LabelNo.{LabelNo}
 use Rattle.labels.specs.declared.LabelTable.{LabelTable}
 use Rattle.labels.specs.declared.Slot.{Slot}
 use Rattle.labels.specs.declared.Slot.the-variants.{Seen, Free}
-use Rattle.labels.specs.Label.{noLabel, absent, labelNo, sameLabel}
-use Rattle.labels.specs.Table.{indexOf, numberOf, withLabel, labelAt, Distinct, firstPlace, placeAt, freeFrom, freePlace, insert, insertAll, placesOf, tableOf, probe, lookup, slotOf, Readable, FindsLabel, AddsLabel, putLabel}
+use Rattle.labels.specs.Label.{noLabel, absent, labelNo, equalLabel?}
+use Rattle.labels.specs.Table.{indexOf, numberOf, withLabel, labelAt, Distinct, firstPlace, placeAt, freeFrom, freePlace, insert, insertAll, placesOf, tableOf}
+use Rattle.labels.specs.Search.{probe, lookup, slotOf, Readable, FindsLabel, AddsLabel, putLabel}
 use Rattle.labels.proofs.Same.{label-eq, label-refl}
 use Rattle.labels.proofs.Probe.{first-low, probe-first}
 use Rattle.labels.proofs.Placed.{Placed, Stops, upd, upd-here, upd-else, none-placed, lookup-seen, lookup-free, insert-placed}
@@ -52,7 +53,7 @@ pub index-at : (ls : List Label) (x : Label) → indexOf ls x < length ls → ge
 unfolding indexOf
 index-at [] x h = absurd (omega arith)
 index-at (l ∷ ls) x h =
-    either-bool (sameLabel l x)
+    either-bool (equalLabel? l x)
     (λ t. simp t (label-eq l x t))
     (λ t. let h′ : suc (indexOf ls x) < length (l ∷ ls) = simp t at h in simp t (index-at ls x (omega arith)))
 
@@ -60,10 +61,10 @@ pub index-not : (ls : List Label) (x : Label) → length ls ≤ indexOf ls x →
 unfolding indexOf
 index-not [] x h k b e = omega arith
 index-not (l ∷ ls) x h zero b e =
-    let t : sameLabel l x ≡ true = ap (sameLabel l) (sym e) ∙ label-refl l in
+    let t : equalLabel? l x ≡ true = ap (equalLabel? l) (sym e) ∙ label-refl l in
     let h′ : length (l ∷ ls) ≤ 0 = simp t at h in omega arith
 index-not (l ∷ ls) x h (suc k) b e =
-    either-bool (sameLabel l x)
+    either-bool (equalLabel? l x)
     (λ t. let h′ : length (l ∷ ls) ≤ 0 = simp t at h in omega arith)
     (λ t. let h′ : length (l ∷ ls) ≤ suc (indexOf ls x) = simp t at h in index-not ls x (omega arith) k (omega arith) e)
 
@@ -182,7 +183,7 @@ distinct-with ls x a =
 pub index-most : (ls : List Label) (x : Label) → indexOf ls x ≤ length ls
 unfolding indexOf
 index-most [] x = omega arith
-index-most (l ∷ ls) x = either-bool (sameLabel l x) (λ t. simp t (omega arith)) (λ t. simp t (omega (arith, index-most ls x)))
+index-most (l ∷ ls) x = either-bool (equalLabel? l x) (λ t. simp t (omega arith)) (λ t. simp t (omega (arith, index-most ls x)))
 
 -- a label's number is among the numbers of the labels, once the label is among them; and labels are only added
 pub number-low : (ls : List Label) (x : Label) → (numberOf ls x ≤ length (withLabel ls x)) × (length ls ≤ length (withLabel ls x))

@@ -28,32 +28,27 @@ unfoldable pub labelForm? : List ℕ → Bool
 unfolding letter?
 labelForm? l = labelLength? (length l) && all? letter? l
 
--- what a run has: the bytes of a label, or no bytes at all where it has none
-unfoldable pub label? : List ℕ → Bool
-unfolding letter?
-label? l = leb (length l) maxLabelBytes && all? letter? l
-
 -- "distinct labels from 1 in the order of first appearance; label 0 means none"
 abbrev pub labelNo : ℕ → LabelNo
 labelNo n = record { 0 = n }
 
--- A byte string of at most 24 bytes as a label, and its bytes again.
+-- A byte string of at most so many bytes as a label, and its bytes again.
 unfoldable pub labelOf : List ℕ → Label
 unfolding pad
-labelOf s = record { bytes = pad 0 24 s; length = length s }
+labelOf s = record { bytes = pad 0 maxLabelBytes s; length = length s }
 
 abbrev pub text : Label → List ℕ
 text x = take (x .length) (x .bytes)
 
 abbrev pub noLabel : Label
-noLabel = record { bytes = replicate 24 0; length = 0 }
+noLabel = record { bytes = replicate maxLabelBytes 0; length = 0 }
 
 -- what a read past the end of a list of labels gives
 abbrev pub absent : Label
 absent = record { bytes = []; length = 0 }
 
-unfoldable pub sameLabel : Label → Label → Bool
-sameLabel x y = eqb (x .length) (y .length) && same? (x .bytes) (y .bytes)
+unfoldable pub equalLabel? : Label → Label → Bool
+equalLabel? x y = eqb (x .length) (y .length) && same? (x .bytes) (y .bytes)
 
 -- A value that holds a label: the bytes of one to its length, and zeros behind.
 unfoldable pub soundFrom : ℕ → List ℕ → Bool
@@ -66,4 +61,4 @@ abbrev pub byteSound : Bool → ℕ → Bool
 byteSound b x = cond b (letter? x) (eqb x 0)
 
 unfoldable pub sound? : Label → Bool
-sound? x = leb (x .length) 24 && soundFrom (x .length) (x .bytes)
+sound? x = leb (x .length) maxLabelBytes && soundFrom (x .length) (x .bytes)

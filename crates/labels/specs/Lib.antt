@@ -1,3 +1,4 @@
 pub mod Fnv
 pub mod Label
 pub mod Table
+pub mod Search

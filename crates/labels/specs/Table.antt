@@ -1,24 +1,23 @@
 -- The label table: the labels in order of first appearance, and the 128 places through which they are found.
-use Prim.Native.Nat.{ℕ, zero, suc, _+_, _-_, _%_, _<_, _≤_}
+use Prim.Native.Nat.{ℕ, zero, suc, _+_, _-_, _%_, _≤_}
 use mathlib.Core.Path.{_≡_}
 use mathlib.Core.List.{List, [], _∷_, _++_}
 use mathlib.Core.Bool.{cond}
 use lib.ListN.{length, getD, set, replicate}
-use lib.Dec.{eqb, leb, ltb}
+use lib.Dec.{eqb, leb}
 use Rattle.lists.specs.Lists.{pad}
+use Rattle.lists.specs.Limits.{maxLogLabels}
 use Rattle.labels.specs.Fnv.{fnvOf}
 use Rattle.labels.specs.declared.LabelNo.{LabelNo}
 use Rattle.labels.specs.declared.Label.{Label}
 use Rattle.labels.specs.declared.LabelTable.{LabelTable}
-use Rattle.labels.specs.declared.Slot.{Slot}
-use Rattle.labels.specs.declared.Slot.the-variants.{Seen, Free, Full}
-use Rattle.labels.specs.Label.{labelNo, noLabel, absent, text, sameLabel}
+use Rattle.labels.specs.Label.{labelNo, noLabel, absent, text, equalLabel?}
 
 -- ── labels in order of first appearance ──
 -- the place of the first label that is x, or the place after the last
 unfoldable pub indexOf : List Label → Label → ℕ
 indexOf [] x = 0
-indexOf (l ∷ ls) x = cond (sameLabel l x) 0 (suc (indexOf ls x))
+indexOf (l ∷ ls) x = cond (equalLabel? l x) 0 (suc (indexOf ls x))
 
 -- A label's number: its place in the list, from 1; "label 0 means none".
 unfoldable pub numberOf : List Label → Label → ℕ
@@ -38,9 +37,12 @@ Distinct ls = (i j : ℕ) → (i ≡ 0 → ⊥) → i ≤ length ls → (j ≡ 0
 
 -- ── the 128 places ──
 -- "Labels are found through 128 places."
+abbrev pub labelPlaces : ℕ
+labelPlaces = 128
+
 -- "A label's first place is the 32-bit FNV-1a hash of its bytes modulo 128"
 unfoldable pub firstPlace : Label → ℕ
-firstPlace x = fnvOf (text x) % 128
+firstPlace x = fnvOf (text x) % labelPlaces
 
 -- the number at a place; "An empty place holds 0."
 abbrev pub placeAt : List LabelNo → ℕ → ℕ
@@ -49,10 +51,10 @@ placeAt ps p = getD ps p (labelNo 0) .0
 -- "if taken by another label, the next place, 127 being followed by 0": the first empty place from p on, among k
 unfoldable pub freeFrom : (ℕ → ℕ) → ℕ → ℕ → ℕ
 freeFrom pl p zero = p
-freeFrom pl p (suc k) = cond (eqb (pl p) 0) p (freeFrom pl ((p + 1) % 128) k)
+freeFrom pl p (suc k) = cond (eqb (pl p) 0) p (freeFrom pl ((p + 1) % labelPlaces) k)
 
 abbrev pub freePlace : List LabelNo → Label → ℕ
-freePlace ps x = freeFrom (placeAt ps) (firstPlace x) 128
+freePlace ps x = freeFrom (placeAt ps) (firstPlace x) labelPlaces
 
 -- the label x put under the number n
 unfoldable pub insert : List LabelNo → ℕ → Label → List LabelNo
@@ -64,45 +66,8 @@ insertAll ps n [] = ps
 insertAll ps n (x ∷ xs) = insertAll (insert ps n x) (suc n) xs
 
 unfoldable pub placesOf : List Label → List LabelNo
-placesOf ls = insertAll (replicate 128 (labelNo 0)) 1 ls
+placesOf ls = insertAll (replicate labelPlaces (labelNo 0)) 1 ls
 
 -- The table that holds the labels; "Unused places hold zero."
 abbrev pub tableOf : List Label → LabelTable
-tableOf ls = record { labels = pad noLabel 64 ls; places = placesOf ls; count = length ls }
-
--- ── finding and adding ──
--- the search through any places, whatever they hold: from p on, among k
-unfoldable pub probe : (ℕ → ℕ) → (ℕ → Label) → Label → ℕ → ℕ → Slot
-probe pl lb x p zero = Full
-probe pl lb x p (suc k) =
-    let r = probe pl lb x ((p + 1) % 128) k in
-    cond (eqb (pl p) 0) (Free p) (cond (sameLabel (lb (pl p)) x) (Seen (labelNo (pl p))) r)
-
-abbrev pub lookup : LabelTable → Label → Slot
-lookup t x = probe (placeAt (t .places)) (labelAt (t .labels)) x (firstPlace x) 128
-
--- what is to be found: the label's number if it is in the list, otherwise the empty place where it would go
-unfoldable pub slotOf : List Label → Label → Slot
-slotOf ls x = cond (ltb (indexOf ls x) (length ls)) (Seen (labelNo (suc (indexOf ls x)))) (Free (freePlace (placesOf ls) x))
-
--- no place names a label past the 64th
-unfoldable pub Readable : LabelTable → Type 0
-Readable t = (p : ℕ) → placeAt (t .places) p ≤ 64
-
--- what a search answers, in any table; and in the table of a list of at most 64 different labels
-pub record FindsLabel (t : LabelTable) (x : Label) (s : Slot) : Type 0 where
-  pub answer : s ≡ lookup t x
-  pub meaning : (ls : List Label) → Distinct ls → length ls ≤ 64 → t ≡ tableOf ls → s ≡ slotOf ls x
-
-abbrev pub putLabel : LabelTable → Label → ℕ → LabelTable
-putLabel t x p =
-    record {
-      labels = set (t .labels) (t .count) x;
-      places = set (t .places) p (labelNo (t .count + 1));
-      count = t .count + 1;
-    }
-
--- what adding a label answers, in any table; and at the place that a search found, in the table of a list
-pub record AddsLabel (t : LabelTable) (x : Label) (p : ℕ) (q : LabelTable) : Type 0 where
-  pub answer : q ≡ putLabel t x p
-  pub meaning : (ls : List Label) → length ls < 64 → t ≡ tableOf ls → p ≡ freePlace (placesOf ls) x → q ≡ tableOf (ls ++ (x ∷ []))
+tableOf ls = record { labels = pad noLabel maxLogLabels ls; places = placesOf ls; count = length ls }

@@ -7,27 +7,33 @@ ghost use mathlib.Core.Path.{_≡_};
 ghost use mathlib.Core.List.{[]};
 ghost use Prim.Native.Nat.{ℕ, _+_, _*_, _%_, _<_, _≤_};
 ghost use lib.ListN.{length};
+ghost use Rattle.lists.specs.Limits.{maxLogLabels};
 ghost use Rattle.lists.specs.Tells.{Tells};
 ghost use Rattle.labels.specs.Fnv.{fnvOf, fnvStep};
-ghost use Rattle.labels.specs.Label.{letter?, labelForm?, labelOf, noLabel, byteSound, sound?};
-ghost use Rattle.labels.specs.Table.{FindsLabel, AddsLabel, firstPlace, tableOf, Readable};
+ghost use Rattle.labels.specs.Label.{maxLabelBytes, letter?, labelForm?, labelOf, noLabel, byteSound, sound?};
+ghost use Rattle.labels.specs.Table.{labelPlaces, firstPlace, tableOf};
+ghost use Rattle.labels.specs.Search.{FindsLabel, AddsLabel, Readable};
+use lists::MAX_LOG_LABELS;
 
-// The most bytes of a label.
+// The most bytes of a label: maxLabelBytes of specs.
 pub const MAX_LABEL_BYTES: usize = 24;
+
+// The places through which labels are found: labelPlaces of specs.
+pub const LABEL_PLACES: usize = 128;
 
 // A label's number, from 1 in the order of first appearance; 0 for none.
 pub struct LabelNo(pub u8);
 
 // The first `length` bytes are the label's, the others 0. Length 0: no label.
 pub struct Label {
-    pub bytes: [u8; 24],
+    pub bytes: [u8; MAX_LABEL_BYTES],
     pub length: u8,
 }
 
 // The first `count` labels are the table's. A place holds the number of the label that stands there, 0 where it is empty.
 pub struct LabelTable {
-    pub labels: [Label; 64],
-    pub places: [LabelNo; 128],
+    pub labels: [Label; MAX_LOG_LABELS],
+    pub places: [LabelNo; LABEL_PLACES],
     pub count: usize,
 }
 
@@ -109,17 +115,17 @@ pub fn no_label() -> Label
     ensures { λ x. ⌜ x ≡ noLabel ⌝ }
 {
     Label {
-        bytes: [0; 24],
+        bytes: [0; MAX_LABEL_BYTES],
         length: 0,
     }
 }
 
 // The label with these bytes.
 pub fn label_from(bytes: &[u8]) -> Label
-    requires { ⌜ length (now bytes) ≤ 24 ⌝ }
+    requires { ⌜ length (now bytes) ≤ maxLabelBytes ⌝ }
     ensures { λ x. ⌜ x ≡ labelOf (now (bytes .entry)) ⌝ }
 {
-    let mut text = [0u8; 24];
+    let mut text = [0u8; MAX_LABEL_BYTES];
     let n = bytes.len();
     let mut i: usize = 0;
     while i < n {
@@ -144,14 +150,14 @@ fn byte_sound(inside: bool, b: u8) -> bool
 
 // Whether a label handed in has the bytes of a label to its length, and zeros behind.
 pub fn is_sound(x: Label) -> bool
-    ensures { λ r. ⌜ (r ≡ sound? x) × (length (x .bytes) ≡ 24) ⌝ }
+    ensures { λ r. ⌜ (r ≡ sound? x) × (length (x .bytes) ≡ maxLabelBytes) ⌝ }
 {
-    if 24 < x.length {
+    let n = x.length as usize;
+    if MAX_LABEL_BYTES < n {
         return false;
     }
-    let n = x.length as usize;
     let mut i: usize = 0;
-    while i < 24 {
+    while i < MAX_LABEL_BYTES {
         let b = x.bytes[i];
         if !byte_sound(i < n, b) {
             return false;
@@ -169,7 +175,7 @@ pub fn equal_labels(a: Label, b: Label) -> bool
         return false;
     }
     let mut i: usize = 0;
-    while i < 24 {
+    while i < MAX_LABEL_BYTES {
         if a.bytes[i] != b.bytes[i] {
             return false;
         }
@@ -184,29 +190,29 @@ pub fn no_labels() -> LabelTable
 {
     let blank = no_label();
     LabelTable {
-        labels: [blank; 64],
-        places: [LabelNo(0); 128],
+        labels: [blank; MAX_LOG_LABELS],
+        places: [LabelNo(0); LABEL_PLACES],
         count: 0,
     }
 }
 
 // A label's first place: its hash modulo 128.
 pub fn first_place(x: Label) -> usize
-    requires { ⌜ x .length ≤ 24 ⌝ }
+    requires { ⌜ x .length ≤ maxLabelBytes ⌝ }
     ensures { λ p. ⌜ p ≡ firstPlace x ⌝ }
 {
     let bytes = x.bytes;
     let n = x.length as usize;
-    (fnv1a(&bytes[..n]) % 128) as usize
+    (fnv1a(&bytes[..n]) as usize) % LABEL_PLACES
 }
 
 // The label's number if it is among the table's labels, otherwise the empty place where it would go.
 pub fn find_label(t: LabelTable, x: Label) -> Slot
-    requires { ⌜ (x .length ≤ 24) × Readable t ⌝ }
+    requires { ⌜ (x .length ≤ maxLabelBytes) × Readable t ⌝ }
     ensures { λ s. ⌜ FindsLabel t x s ⌝ }
 {
     let mut p = first_place(x);
-    let mut left: usize = 128;
+    let mut left: usize = LABEL_PLACES;
     while 0 < left {
         let n = t.places[p];
         if n.0 == 0 {
@@ -217,7 +223,7 @@ pub fn find_label(t: LabelTable, x: Label) -> Slot
         if equal_labels(y, x) {
             return Slot::Seen(n);
         }
-        p = (p + 1) % 128;
+        p = (p + 1) % LABEL_PLACES;
         left -= 1;
     }
     Slot::Full
@@ -225,7 +231,7 @@ pub fn find_label(t: LabelTable, x: Label) -> Slot
 
 // The table with one label more, at an empty place that a search found.
 pub fn add_label(t: LabelTable, x: Label, p: usize) -> LabelTable
-    requires { ⌜ (t .count < 64) × (p < 128) ⌝ }
+    requires { ⌜ (t .count < maxLogLabels) × (p < labelPlaces) ⌝ }
     ensures { λ q. ⌜ AddsLabel t x p q ⌝ }
 {
     let mut q = t;
@@ -237,11 +243,11 @@ pub fn add_label(t: LabelTable, x: Label, p: usize) -> LabelTable
     q
 }
 
-fn equal_label_lists(a: [Label; 64], b: [Label; 64]) -> bool
+fn equal_label_lists(a: [Label; MAX_LOG_LABELS], b: [Label; MAX_LOG_LABELS]) -> bool
     ensures { λ r. ⌜ Tells r (a ≡ b) ⌝ }
 {
     let mut i: usize = 0;
-    while i < 64 {
+    while i < MAX_LOG_LABELS {
         let x = a[i];
         let y = b[i];
         if !equal_labels(x, y) {
@@ -252,11 +258,11 @@ fn equal_label_lists(a: [Label; 64], b: [Label; 64]) -> bool
     true
 }
 
-fn same_places(a: [LabelNo; 128], b: [LabelNo; 128]) -> bool
+fn same_places(a: [LabelNo; LABEL_PLACES], b: [LabelNo; LABEL_PLACES]) -> bool
     ensures { λ r. ⌜ Tells r (a ≡ b) ⌝ }
 {
     let mut i: usize = 0;
-    while i < 128 {
+    while i < LABEL_PLACES {
         if a[i].0 != b[i].0 {
             return false;
         }

@@ -10,7 +10,8 @@ use Rattle.labels.specs.declared.Label.{Label}
 use Rattle.labels.specs.declared.LabelNo.{LabelNo}
 use Rattle.labels.specs.declared.LabelTable.{LabelTable}
 use Rattle.labels.specs.Label.{labelNo}
-use Rattle.labels.specs.Table.{Readable, placeAt, tableOf, putLabel}
+use Rattle.labels.specs.Table.{placeAt, tableOf}
+use Rattle.labels.specs.Search.{Readable, putLabel}
 use Rattle.labels.proofs.Table.{table-readable, none-distinct}
 
 pub empty-readable : (t : LabelTable) → t ≡ tableOf [] → Readable t

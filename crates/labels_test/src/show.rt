@@ -1,25 +1,18 @@
-// Lines on standard output, one a case.
+// What the calls answer.
+use super::table;
 use labels::Label;
 use labels::Slot;
 use libc::STDOUT_FILENO;
-
-fn wide(b: u8) -> u64 {
-    b as u64
-}
 
 fn wide_hash(h: u32) -> u64 {
     h as u64
 }
 
-fn text(bytes: &[u8]) {
-    io::write_all(STDOUT_FILENO, bytes);
-}
-
 fn answer(yes: bool) {
     if yes {
-        text(b": yes\n");
+        test_text::write(b": yes\n");
     } else {
-        text(b": no\n");
+        test_text::write(b": no\n");
     }
 }
 
@@ -28,93 +21,73 @@ fn dotted(b: u8) -> u8 {
     if b < 32 { b'.' } else { b }
 }
 
-fn dotted_byte(b: u8) {
-    let one = [dotted(b)];
-    text(&one);
-}
-
 fn dotted_text(bytes: &[u8]) {
     let mut i: usize = 0;
     while i < bytes.len() {
-        dotted_byte(bytes[i]);
+        test_text::write_byte(dotted(bytes[i]));
         i += 1;
     }
 }
 
-// The hash of a word, in hexadecimal.
-fn hash(word: &[u8]) {
-    text(b"hash of \"");
-    dotted_text(word);
-    text(b"\": ");
-    io::print_hex(STDOUT_FILENO, wide_hash(labels::fnv1a(word)), 8);
-    text(b"\n");
+// The hash of the bytes of a text, in hexadecimal.
+fn hash(text: &[u8]) {
+    let mut word = [0u8; 32];
+    let n = test_cases::bytes(text, &mut word);
+    test_text::write(b": ");
+    io::print_hex(STDOUT_FILENO, wide_hash(labels::fnv1a(&word[..n])), 8);
+    test_text::write(b"\n");
 }
 
-// The hash of each word; a bar ends a word.
-pub fn hashes(words: &[u8]) {
-    let mut start: usize = 0;
-    let mut i: usize = 0;
-    while i < words.len() {
-        if words[i] == b'|' {
-            hash(&words[start..i]);
-            start = i + 1;
-        }
-        i += 1;
-    }
-}
-
-// Whether a label may have the byte.
-fn label_byte(b: u8) {
-    text(b"label byte ");
-    io::print_decimal(STDOUT_FILENO, wide(b));
-    answer(labels::label_byte(b));
-}
-
-pub fn label_bytes(bytes: &[u8]) {
-    let mut i: usize = 0;
-    while i < bytes.len() {
-        label_byte(bytes[i]);
-        i += 1;
-    }
-}
-
-// A label's length, and its 24 bytes with dots for zeros.
-pub fn label(x: Label) {
-    text(b"label of length ");
-    io::print_decimal(STDOUT_FILENO, wide(x.length));
-    text(b": ");
+fn label(x: Label) {
     let bytes = x.bytes;
+    let length = [test_text::wide(x.length)];
+    test_text::write_filled(b"label of length %a: ", &length);
     dotted_text(&bytes);
-    text(b"\n");
-}
-
-pub fn same(name: &[u8], a: Label, b: Label) {
-    text(b"same label, ");
-    text(name);
-    answer(labels::equal_labels(a, b));
-}
-
-pub fn sound(name: &[u8], x: Label) {
-    text(b"sound label, ");
-    text(name);
-    answer(labels::is_sound(x));
+    test_text::write(b"\n");
 }
 
 // Where the search for a label ends.
 pub fn slot(word: &[u8], s: Slot) {
-    text(word);
+    test_text::write(word);
     match s {
         Slot::Seen(n) => {
-            text(b" has number ");
-            io::print_decimal(STDOUT_FILENO, wide(n.0));
+            test_text::write(b" has number ");
+            test_text::write_number(test_text::wide(n.0));
         }
         Slot::Free(p) => {
-            text(b" goes to place ");
-            io::print_decimal(STDOUT_FILENO, p as u64);
+            test_text::write(b" goes to place ");
+            test_text::write_number(p as u64);
         }
-        Slot::Full => {
-            text(b" finds no place");
-        }
+        Slot::Full => test_text::write(b" finds no place"),
     }
-    text(b"\n");
+    test_text::write(b"\n");
+}
+
+// The cases that write a text and whether something is so.
+fn yes_or_no(x: Label, kind: u8, text: &[u8]) {
+    if kind == b'b' {
+        test_text::write(text);
+        answer(labels::label_byte(test_cases::byte(text, 2)));
+    }
+    if kind == b'd' {
+        test_text::write(text);
+        answer(labels::is_sound(x));
+    }
+    if kind == b'e' {
+        answer(labels::equal_labels(table::label(text), x));
+    }
+}
+
+// The cases that write.
+pub fn case(x: Label, kind: u8, text: &[u8]) {
+    if kind == b'w' {
+        test_text::write(text);
+    }
+    if kind == b'h' {
+        hash(text);
+    }
+    if kind == b'l' {
+        label(x);
+    }
+    yes_or_no(x, kind, text);
 }

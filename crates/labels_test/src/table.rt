@@ -1,7 +1,7 @@
 // Tables that the cases fill, and searches in them.
 ghost use Prim.Native.Nat.{_≤_};
-ghost use Rattle.labels.specs.Table.{Readable};
-use crate::show;
+ghost use Rattle.labels.specs.Search.{Readable};
+use super::show;
 use labels::Label;
 use labels::LabelTable;
 use labels::Slot;
@@ -37,60 +37,25 @@ fn with_label(t: LabelTable, x: Label) -> LabelTable
 }
 
 // Writes where the search for a word ends.
-pub fn find(t: LabelTable, word: &[u8])
+fn find(t: LabelTable, word: &[u8])
     requires { ⌜ Readable t ⌝ }
 {
     show::slot(word, labels::find_label(t, label(word)));
 }
 
-// Writes where a word goes, and answers the table with it.
-pub fn put(t: LabelTable, word: &[u8]) -> LabelTable
+// The table after a case.
+pub fn after(t: LabelTable, kind: u8, text: &[u8]) -> LabelTable
     requires { ⌜ Readable t ⌝ }
     ensures { λ q. ⌜ Readable q ⌝ }
 {
-    find(t, word);
-    with_label(t, label(word))
-}
-
-fn digit(d: usize) -> u8 {
-    if d < 10 { b'0' + d as u8 } else { b'_' }
-}
-
-fn put_numbered(t: LabelTable, i: usize) -> LabelTable
-    requires { ⌜ Readable t ⌝ }
-    ensures { λ q. ⌜ Readable q ⌝ }
-{
-    let word = [b'L', digit(i / 10), digit(i % 10)];
-    put(t, &word)
-}
-
-fn find_numbered(t: LabelTable, i: usize)
-    requires { ⌜ Readable t ⌝ }
-{
-    let word = [b'L', digit(i / 10), digit(i % 10)];
-    find(t, &word);
-}
-
-// The table of the labels L00 to L63.
-pub fn filled() -> LabelTable
-    ensures { λ t. ⌜ Readable t ⌝ }
-{
-    let mut t = empty();
-    let mut i: usize = 0;
-    while i < 64 {
-        t = put_numbered(t, i);
-        i += 1;
+    if kind == b't' {
+        return empty();
+    }
+    if kind == b'f' || kind == b'p' {
+        find(t, text);
+    }
+    if kind == b'p' {
+        return with_label(t, label(text));
     }
     t
-}
-
-// Writes what a search finds for each of the labels L00 to L63.
-pub fn find_all(t: LabelTable)
-    requires { ⌜ Readable t ⌝ }
-{
-    let mut i: usize = 0;
-    while i < 64 {
-        find_numbered(t, i);
-        i += 1;
-    }
 }

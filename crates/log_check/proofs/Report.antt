@@ -6,7 +6,7 @@ use native.Mathlib.Omega.{arith}
 use lib.ListN.{length, take, drop, length-append}
 use lib.Seq.{length-take-le, take-append-seam}
 use borrow.Author.Tests.{le-ltb}
-use Rattle.monitor.specs.Log.{logOf}
+use Rattle.whole_log.specs.Log.{logOf}
 use Rattle.report.specs.declared.Reported.{Reported}
 use Rattle.report.specs.declared.Reported.the-variants.{Length, Refused}
 use Rattle.report.specs.Text.{reportText}

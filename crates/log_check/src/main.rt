@@ -1,15 +1,22 @@
 // The check program: holds the log on standard input against the rule in the file rule.rul, and writes the report.
 //
-// A rule file that can't be opened counts as no bytes. Arguments are ignored. What the report says is the work of the crate `report`.
+// A rule file that can't be opened counts as no bytes. A read or a write that fails is said on standard error, and after a failed read
+// no report is written. Arguments are ignored. What the report says is the work of the crate `report`.
 ghost use Prim.Native.Nat.{_≤_};
 ghost use mathlib.Core.Path.{_≡_};
-ghost use lib.ListN.{length};
+ghost use lib.ListN.{length, take};
 ghost use Rattle.io.specs.Counts.{Counts};
-ghost use Rattle.log_check.specs.Printed.{ruleRoom, logRoom, Printed};
+ghost use Rattle.lists.specs.Limits.{maxLines};
+ghost use Rattle.report.specs.Report.{reportSize};
+ghost use Rattle.input.specs.Filled.{Fills};
+ghost use Rattle.log_check.specs.Printed.{ruleRoom, logRoom, Printed, Prints};
 ghost use Rattle.pairs.specs.Grid.{workSize};
+use input::Filled;
 use libc::STDIN_FILENO;
 use libc::STDOUT_FILENO;
+use lists::MAX_LINES;
 use pairs::PAIR_BYTES;
+use report::REPORT_BYTES;
 use report::Reported;
 
 // One byte more than the longest rule file, so that a longer one is seen to be too long.
@@ -18,30 +25,24 @@ const RULE_ROOM: usize = 600;
 // The first bytes of a log. With those of the rule file they decide the report: `first-bytes-decide-report` of the crate `report`.
 const LOG_ROOM: usize = 8192;
 
-const VERDICT_BYTES: usize = 256;
-
-const TEXT_BYTES: usize = 2048;
-
-// Puts the rule file's first bytes at the start of the buffer, and answers how many there are.
-fn read_rule(rule: &mut [u8]) -> usize
+// Puts the rule file's first bytes at the start of the buffer.
+fn read_rule(rule: &mut [u8]) -> Filled
     requires { ⌜ length (now rule) ≡ ruleRoom ⌝ }
-    ensures { λ n. ⌜ Counts n (now (rule .exit)) ⌝ }
+    ensures { λ a. ⌜ Fills a (now (rule .exit)) ⌝ }
 {
-    let fd = os::open_read(b"rule.rul");
-    if fd < 0 {
-        return 0;
-    }
-    let n = io::read_full(fd, rule);
-    libc::close(fd);
-    n
+    let a = input::read_rule(rule);
+    input::complain(a, b"log_check: rule.rul");
+    a
 }
 
-// Puts the log's first bytes at the start of the buffer, and answers how many there are.
-fn read_log(log: &mut [u8]) -> usize
+// Puts the log's first bytes at the start of the buffer.
+fn read_log(log: &mut [u8]) -> Filled
     requires { ⌜ length (now log) ≡ logRoom ⌝ }
-    ensures { λ n. ⌜ Counts n (now (log .exit)) ⌝ }
+    ensures { λ a. ⌜ Fills a (now (log .exit)) ⌝ }
 {
-    io::read_full(STDIN_FILENO, log)
+    let a = input::fill(STDIN_FILENO, log);
+    input::complain(a, b"log_check: standard input");
+    a
 }
 
 // Puts the report of a rule file and a log at the start of the text, and answers its length.
@@ -52,7 +53,7 @@ fn make_report(
     verdicts: &mut [u8],
     text: &mut [u8],
 ) -> usize
-    requires { ⌜ (workSize ≤ length (now work)) × (256 ≤ length (now verdicts)) × (2048 ≤ length (now text)) ⌝ }
+    requires { ⌜ (workSize ≤ length (now work)) × (maxLines ≤ length (now verdicts)) × (reportSize ≤ length (now text)) ⌝ }
     ensures { λ n. ⌜ Printed (now (rule .entry)) (now (log .entry)) (now (text .exit)) n ⌝ }
 {
     let answer = report::report(rule, log, work, verdicts, text);
@@ -63,14 +64,55 @@ fn make_report(
     }
 }
 
+// Puts what is to be printed at the start of the text, and answers its length: the report of the bytes that the two reads brought, or
+// nothing where a read failed.
+fn text_of(
+    rule: &[u8],
+    r: Filled,
+    log: &[u8],
+    l: Filled,
+    work: &mut [u8],
+    verdicts: &mut [u8],
+    text: &mut [u8],
+) -> usize
+    requires { ⌜ (workSize ≤ length (now work)) × (maxLines ≤ length (now verdicts)) × (reportSize ≤ length (now text)) ⌝ }
+    requires { ⌜ Fills r (now rule) × Fills l (now log) ⌝ }
+    ensures { λ n. ⌜ Counts n (now (text .exit)) × Prints r (now (rule .entry)) l (now (log .entry)) (take n (now (text .exit))) ⌝ }
+{
+    match r {
+        Filled::Failed => return 0,
+        Filled::Bytes(n) => match l {
+            Filled::Failed => return 0,
+            Filled::Bytes(m) => return make_report(&rule[..n], &log[..m], work, verdicts, text),
+        },
+    }
+}
+
+// Writes a text to standard output, and says on standard error where that fails. It asks that this is the text to be printed of the
+// two buffers and what the two reads answered.
+fn hand_on(rule: &[u8], r: Filled, log: &[u8], l: Filled, text: &[u8])
+    requires { ⌜ Prints r (now rule) l (now log) (now text) ⌝ }
+{
+    if !io::write_all(STDOUT_FILENO, text) {
+        os::fail(b"log_check: standard output");
+    }
+}
+
+// Prints what is to be printed of the two buffers and what the two reads answered.
+fn print(rule: &[u8], r: Filled, log: &[u8], l: Filled)
+    requires { ⌜ Fills r (now rule) × Fills l (now log) ⌝ }
+{
+    let mut work = [0u8; PAIR_BYTES];
+    let mut verdicts = [0u8; MAX_LINES];
+    let mut text = [0u8; REPORT_BYTES];
+    let size = text_of(rule, r, log, l, &mut work, &mut verdicts, &mut text);
+    hand_on(rule, r, log, l, &text[..size]);
+}
+
 fn main() {
     let mut rule = [0u8; RULE_ROOM];
     let mut log = [0u8; LOG_ROOM];
-    let mut work = [0u8; PAIR_BYTES];
-    let mut verdicts = [0u8; VERDICT_BYTES];
-    let mut text = [0u8; TEXT_BYTES];
-    let n = read_rule(&mut rule);
-    let m = read_log(&mut log);
-    let size = make_report(&rule[..n], &log[..m], &mut work, &mut verdicts, &mut text);
-    io::write_all(STDOUT_FILENO, &text[..size]);
+    let r = read_rule(&mut rule);
+    let l = read_log(&mut log);
+    print(&rule, r, &log, l);
 }

@@ -11,7 +11,7 @@ use Rattle.labels.specs.declared.LabelNo.{LabelNo}
 use Rattle.labels.specs.declared.LabelTable.{LabelTable}
 use Rattle.labels.specs.declared.Slot.{Slot}
 use Rattle.labels.specs.declared.Slot.the-variants.{Seen, Free, Full}
-use Rattle.labels.specs.Table.{lookup, FindsLabel}
+use Rattle.labels.specs.Search.{lookup, FindsLabel}
 use Rattle.logic.specs.Shown.{slotNumber}
 
 -- ── what a search for a label finds ──

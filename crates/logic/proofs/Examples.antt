@@ -9,17 +9,10 @@ use Rattle.labels.specs.Label.{labelOf}
 use Rattle.trace.specs.declared.Run.{Run}
 use Rattle.trace.specs.Trace.{Trace, Accepted}
 use Rattle.rules.specs.Formula.{Formula, noScope, scoped}
-use Rattle.logic.specs.declared.Verdict.{Verdict}
 use Rattle.logic.specs.declared.Verdict.the-variants.{Holds, Fails}
 use Rattle.logic.specs.Model.{eval, modelOf}
-use Rattle.logic.specs.Verdict.{Says}
+use Rattle.logic.specs.Verdict.{After}
 use Rattle.logic.proofs.Judged.{closed-says}
-
--- the log is accepted, and w is the formula's verdict after it
-pub record After (log : List ℕ) (f : Formula) (w : Verdict) : Type 0 where
-  pub trace : Trace
-  pub accepted : Accepted log trace
-  pub says : Says trace f w
 
 pub after : (log : List ℕ) (t : Trace) (f : Formula) (b : Bool) → Accepted log t → scoped f noScope ≡ true → b ≡ eval (modelOf t) (λ _. 0) f → After log f (cond b Holds Fails)
 after log t f b a c e = record { trace = t; accepted = a; says = closed-says t f (λ _. 0) b c e }

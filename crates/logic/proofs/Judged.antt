@@ -12,7 +12,8 @@ use Rattle.lists.specs.Tells.{Tells}
 use Rattle.lists.proofs.Cases.{either-lt}
 use Rattle.labels.specs.declared.Label.{Label}
 use Rattle.labels.specs.Label.{labelOf}
-use Rattle.labels.specs.Table.{indexOf, lookup, slotOf}
+use Rattle.labels.specs.Table.{indexOf}
+use Rattle.labels.specs.Search.{lookup, slotOf}
 use Rattle.labels.proofs.Table.{lookup-table}
 use Rattle.trace.specs.Trace.{Trace}
 use Rattle.trace.specs.Record.{recordOf, Bounded}

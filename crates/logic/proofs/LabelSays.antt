@@ -23,7 +23,7 @@ use Rattle.lines.specs.Line.{eventOf}
 use Rattle.trace.specs.Trace.{Trace, next, noRun, begin, end, apply, Accepted}
 use Rattle.trace.proofs.Taken.{event-taken, line-event}
 use Rattle.trace.proofs.Induction.{accepted-keeps}
-use Rattle.trace.proofs.Accepted.{Orderly}
+use Rattle.trace.specs.Orderly.{Orderly}
 use Rattle.logic.specs.Satisfies.{HasLabel, SameLabel}
 use Rattle.logic.specs.Model.{numberAt}
 use Rattle.logic.specs.Shown.{numberFor}

@@ -18,7 +18,8 @@ use Rattle.lines.specs.Event.{Event, begins}
 use Rattle.trace.specs.declared.Run.{Run}
 use Rattle.trace.specs.Trace.{Trace, next, noRun, newRun, close, begin, end, apply, Accepted}
 use Rattle.trace.proofs.Taken.{begin-taken, event-taken}
-use Rattle.trace.proofs.Accepted.{Orderly, accepted-orderly}
+use Rattle.trace.specs.Orderly.{Orderly}
+use Rattle.trace.proofs.Accepted.{accepted-orderly}
 use Rattle.logic.specs.Satisfies.{HasLabel}
 use Rattle.logic.specs.Model.{numberAt}
 

@@ -1,6 +1,6 @@
 -- What the class is taught. An open run changes no verdict: "some" ranges over finished runs, and whatever a variable stands for
--- inside it has the same label and the same lines before and after a begin line. Two runs without labels are never the same. And
--- a verdict is not for good: each later line can change it.
+-- inside it has the same label and the same lines before and after a begin line. Two runs without labels are never the same. And a
+-- verdict is not for good: each later line can change it.
 use Prim.Native.Nat.{ℕ, zero, suc, _+_, _<_}
 use mathlib.Core.Path.{_≡_, refl, sym, ap, ap₂, subst, _∙_}
 use mathlib.Core.Logic.{_↔_}
@@ -13,7 +13,7 @@ use borrow.Author.Tests.{eq-eqb, ltb-true}
 use Rattle.lists.specs.Lists.{bytes, pad, same?}
 use Rattle.lists.proofs.Cases.{either-eq, either-lt, either-bool}
 use Rattle.labels.specs.declared.Label.{Label}
-use Rattle.labels.specs.Label.{labelOf, text, sameLabel}
+use Rattle.labels.specs.Label.{labelOf, text, equalLabel?}
 use Rattle.labels.specs.Table.{numberOf, indexOf, withLabel, labelAt}
 use Rattle.labels.proofs.Table.{label-kept}
 use Rattle.lines.specs.Event.{begins}
@@ -22,17 +22,19 @@ use Rattle.trace.specs.declared.Run.{Run}
 use Rattle.trace.specs.Trace.{Trace, next, noRun, newRun, runAt, beginLine, endLine, begin, end, apply, applyTo, beginRun, endRun, endOf, close, step, read, Accepted}
 use Rattle.trace.proofs.Examples.{run}
 use Rattle.trace.proofs.Taken.{begin-taken}
-use Rattle.trace.proofs.Accepted.{Orderly, accepted-orderly}
+use Rattle.trace.specs.Orderly.{Orderly}
+use Rattle.trace.proofs.Accepted.{accepted-orderly}
 use Rattle.relations.specs.Relation as Relation
 use Rattle.relations.specs.Runs.{finished?}
-use Rattle.rules.specs.Formula.{before, Formula, both, neg, exists, has, pair, noScope, scoped}
+use Rattle.rules.specs.Formula.{Formula, noScope, scoped}
+use Rattle.rules.specs.Cases.{noEveningIncludesTest, noTestWithoutRunAfter}
 use Rattle.logic.specs.declared.Verdict.the-variants.{Holds, Fails}
 use Rattle.logic.specs.Satisfies.{Binding, SameLabel, Between, related, alike, between, Satisfies}
 use Rattle.logic.specs.Model.{eval, numberAt, hasLabel?, related?, sameLabel?, holdsBetween?, modelOf}
-use Rattle.logic.specs.Verdict.{verdictOf}
+use Rattle.logic.specs.Verdict.{verdictOf, After}
 use Rattle.logic.proofs.Decides.{eval-decides}
 use Rattle.logic.proofs.Closed.{Extends, eval-extends}
-use Rattle.logic.proofs.Examples.{After, after, left, test-label}
+use Rattle.logic.proofs.Examples.{after, left, test-label}
 
 -- ── an open run changes no verdict ──
 -- a run that is open has no finish, as if it were not there
@@ -121,22 +123,23 @@ pub no-label-no-same : (t : Trace) (j k : ℕ) → numberAt t j ≡ 0 → (SameL
 no-label-no-same t j k e = (λ h. h .first .labelled e, λ h. h .second .labelled e)
 
 -- ── a verdict can change with every later line ──
--- ""no TEST without a run after it" fails when a TEST ends and holds again once a later run has finished"
-abbrev pub noTestWithoutRunAfter : Formula
-noTestWithoutRunAfter = neg (exists 0 (both (has 0 (bytes "TEST")) (neg (exists 1 (pair before 0 1)))))
+evening-and-test : List Label
+evening-and-test = labelOf (bytes "EVENING") ∷ labelOf (bytes "TEST") ∷ []
 
-pub record NotForGood : Type 0 where
-  pub begun : After (bytes "B 1 TEST\n") noTestWithoutRunAfter Holds
-  pub ended : After (bytes "B 1 TEST\nE 1\n") noTestWithoutRunAfter Fails
-  pub later-begun : After (bytes "B 1 TEST\nE 1\nB 2\n") noTestWithoutRunAfter Fails
-  pub later-ended : After (bytes "B 1 TEST\nE 1\nB 2\nE 2\n") noTestWithoutRunAfter Holds
+-- "no TEST without a run after it" fails when a TEST ends, and holds again once a later run has finished
+pub test-alone : After (bytes "B 1 TEST\nE 1\n") noTestWithoutRunAfter Fails
+unfolding eval scoped read step applyTo apply eventOf beginRun withLabel labelOf pad indexOf begin equalLabel? numberOf endRun endOf end close
+test-alone = after _ (left (run 1 1 2 1 ∷ []) test-label 2) noTestWithoutRunAfter false (record { bytes = tt; leaves = refl }) refl refl
 
-pub not-for-good : NotForGood
-unfolding eval scoped read step applyTo apply eventOf beginRun withLabel labelOf pad indexOf begin sameLabel numberOf endRun endOf end close
-not-for-good =
-    record {
-      begun = after _ (left (run 1 1 0 1 ∷ []) test-label 1) noTestWithoutRunAfter true (record { bytes = tt; leaves = refl }) refl refl;
-      ended = after _ (left (run 1 1 2 1 ∷ []) test-label 2) noTestWithoutRunAfter false (record { bytes = tt; leaves = refl }) refl refl;
-      later-begun = after _ (left (run 1 1 2 1 ∷ run 2 3 0 0 ∷ []) test-label 3) noTestWithoutRunAfter false (record { bytes = tt; leaves = refl }) refl refl;
-      later-ended = after _ (left (run 1 1 2 1 ∷ run 2 3 4 0 ∷ []) test-label 4) noTestWithoutRunAfter true (record { bytes = tt; leaves = refl }) refl refl;
-    }
+pub test-and-later : After (bytes "B 1 TEST\nE 1\nB 2\nE 2\n") noTestWithoutRunAfter Holds
+unfolding eval scoped read step applyTo apply eventOf beginRun withLabel labelOf pad indexOf begin equalLabel? numberOf endRun endOf end close
+test-and-later = after _ (left (run 1 1 2 1 ∷ run 2 3 4 0 ∷ []) test-label 4) noTestWithoutRunAfter true (record { bytes = tt; leaves = refl }) refl refl
+
+-- P1's rule holds while the EVENING is open, and fails once it is over
+pub evening-open : After (bytes "B 7 EVENING\nB 9 TEST\nE 9\n") noEveningIncludesTest Holds
+unfolding evening-and-test eval scoped read step applyTo apply eventOf beginRun withLabel labelOf pad indexOf begin equalLabel? numberOf endRun endOf end close
+evening-open = after _ (left (run 7 1 0 1 ∷ run 9 2 3 2 ∷ []) evening-and-test 3) noEveningIncludesTest true (record { bytes = tt; leaves = refl }) refl refl
+
+pub evening-over : After (bytes "B 7 EVENING\nB 9 TEST\nE 9\nE 7\n") noEveningIncludesTest Fails
+unfolding evening-and-test eval scoped read step applyTo apply eventOf beginRun withLabel labelOf pad indexOf begin equalLabel? numberOf endRun endOf end close
+evening-over = after _ (left (run 7 1 4 1 ∷ run 9 2 3 2 ∷ []) evening-and-test 4) noEveningIncludesTest false (record { bytes = tt; leaves = refl }) refl refl

@@ -3,7 +3,8 @@ use Prim.Native.Nat.{ℕ}
 use mathlib.Core.Path.{_≡_}
 use mathlib.Core.Logic.{_↔_}
 use mathlib.Core.Bool.{cond}
-use Rattle.trace.specs.Trace.{Trace}
+use mathlib.Core.List.{List}
+use Rattle.trace.specs.Trace.{Trace, Accepted}
 use Rattle.rules.specs.Formula.{Formula}
 use Rattle.logic.specs.declared.Verdict.{Verdict}
 use Rattle.logic.specs.declared.Verdict.the-variants.{Holds, Fails}
@@ -24,3 +25,9 @@ pub record Says (t : Trace) (f : Formula) (w : Verdict) : Type 0 where
   pub answer : w ≡ verdictOf t f
   pub holds : (ρ : Binding) → (verdictByte w ≡ 1) ↔ Satisfies t ρ f
   pub fails : (ρ : Binding) → (verdictByte w ≡ 0) ↔ (Satisfies t ρ f → ⊥)
+
+-- the log is accepted, and w is the formula's verdict after it
+pub record After (log : List ℕ) (f : Formula) (w : Verdict) : Type 0 where
+  pub trace : Trace
+  pub accepted : Accepted log trace
+  pub says : Says trace f w

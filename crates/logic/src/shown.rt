@@ -2,8 +2,8 @@
 ghost use mathlib.Core.Path.{_≡_};
 ghost use Prim.Native.Nat.{ℕ, _<_, _≤_};
 ghost use lib.ListN.{getD};
-ghost use Rattle.labels.specs.Label.{labelOf};
-ghost use Rattle.labels.specs.Table.{lookup, Readable};
+ghost use Rattle.labels.specs.Label.{maxLabelBytes, labelOf};
+ghost use Rattle.labels.specs.Search.{lookup, Readable};
 ghost use Rattle.rules.specs.Labels.{labelBytes, LabelsOk};
 ghost use Rattle.logic.specs.Shown.{slotNumber};
 use labels::Label;
@@ -13,7 +13,7 @@ use rules::MAX_LABELS;
 
 // A label's number in a table: 0 where it was never seen.
 fn number_of(t: LabelTable, x: Label) -> u8
-    requires { ⌜ (x .length ≤ 24) × Readable t ⌝ }
+    requires { ⌜ (x .length ≤ maxLabelBytes) × Readable t ⌝ }
     ensures { λ n. ⌜ n ≡ slotNumber (lookup t x) ⌝ }
 {
     let s = labels::find_label(t, x);

@@ -5,21 +5,18 @@ use mathlib.Core.Bool.{Bool, true, false, cond}
 use mathlib.Core.List.{List}
 use native.Mathlib.Nat.{le-refl, le-max-left, le-max-right}
 use native.Mathlib.Omega.{arith}
-use lib.Dec.{eqb, ltb}
-use Rattle.sets.specs.Sets.{mem}
-use Rattle.sets.specs.declared.RunSet.{RunSet}
+use lib.Dec.{eqb}
 use Rattle.rules.specs.declared.Node.{Node}
 use Rattle.rules.specs.Table.{nodeAt, AtomOk, formulaAt}
 use Rattle.rules.proofs.Formulas.{good-child, and-left-child, and-right-child, not-child, some-child, atom-fields, formula-and, formula-not, formula-some}
 use Rattle.logic.specs.Satisfies.{Binding, bind}
-use Rattle.logic.specs.Model.{Model}
 use Rattle.logic.proofs.Nodes.{atom-more}
 use Rattle.shape.specs.Shape.{height}
-use Rattle.matrix.specs.declared.Bindings.{Bindings}
-use Rattle.matrix.specs.Truth.{Fixed}
-use Rattle.matrix.specs.Rows.{RowsOf}
-use Rattle.matrix.specs.Ready.{binding, RowsReady}
-use Rattle.matrix.proofs.Marks.{bind-within}
+use Rattle.row_table.specs.declared.Bindings.{Bindings}
+use Rattle.row_table.specs.Truth.{Fixed}
+use Rattle.row_table.specs.Ranks.{binding}
+use Rattle.matrix.specs.Ready.{RowsReady}
+use Rattle.row_table.proofs.Marks.{bind-within}
 
 module _ (file : List ℕ) (p : ℕ) (table : List ℕ) (runs n : ℕ) (b : Bindings) (h : RowsReady file p table runs n b) where
   -- the variable of the rows is marked
@@ -93,7 +90,3 @@ module _ (file : List ℕ) (p : ℕ) (table : List ℕ) (runs n : ℕ) (b : Bind
 
     pub atom-rows-ready : (x .kind ≡ 1 → ⊥) → (x .kind ≡ 2 → ⊥) → (x .kind ≡ 3 → ⊥) → AtomOk 64 x
     atom-rows-ready n1 n2 n3 = atom-more _ 64 x (atom-fields file p n x is (h .good) n1 n2 n3) (h .labels-few)
-
--- the first runs are all runs of the model
-pub all-finished : (table file : List ℕ) (runs : ℕ) (M : Model) (s : RunSet) → RowsOf table file runs M → ((j : ℕ) → mem s j ≡ ltb j runs) → (j : ℕ) → mem s j ≡ ltb j (M .runs)
-all-finished table file runs M s rows h j = h j ∙ ap (ltb j) (sym (rows .runs-are))

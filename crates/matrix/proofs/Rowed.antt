@@ -10,9 +10,9 @@ use Rattle.lists.proofs.Cases.{either-eq}
 use Rattle.sets.specs.Sets.{mem}
 use Rattle.logic.specs.Satisfies.{Binding, bind}
 use Rattle.logic.specs.Model.{Model}
-use Rattle.matrix.specs.Truth.{standsFor, Fixed}
+use Rattle.row_table.specs.Truth.{standsFor, Fixed}
 use Rattle.set_table.specs.Rows.{row}
-use Rattle.matrix.specs.Rows.{pairOf, RowsOf}
+use Rattle.row_table.specs.Rows.{pairOf, RowsOf}
 use Rattle.matrix.specs.Matrix.{eachRow, inRow, rowed, asEach}
 
 -- ── bindings ──

@@ -1,42 +1,24 @@
--- The search for a run: at once where the body has no "some", and by rows.
+-- The search for a run by rows.
 use Prim.Native.Nat.{ℕ, _<_, _≤_}
 use mathlib.Core.Path.{_≡_, refl, sym, ap, ap₂, _∙_}
 use mathlib.Core.Bool.{Bool, true, false, _&&_, and-false, and-assoc}
 use mathlib.Core.List.{List}
 use native.Mathlib.Omega.{arith}
-use lib.Dec.{ltb, leb}
+use lib.Dec.{leb}
 use Rattle.lists.specs.Lists.{anyBelow}
 use Rattle.lists.proofs.Below.{any-agree, any-and}
-use Rattle.sets.specs.Sets.{mem, anyUpTo}
+use Rattle.sets.specs.Sets.{mem}
 use Rattle.sets.specs.declared.RunSet.{RunSet}
 use Rattle.rules.specs.Formula.{Formula, exists}
 use Rattle.logic.specs.Satisfies.{Binding, bind}
 use Rattle.logic.specs.Model.{Model, eval}
-use Rattle.matrix.specs.Truth.{truth, each, at, Fixed, TrueAt, FalseWithout}
-use Rattle.shape.specs.Shape.{height}
-use Rattle.set_table.specs.Rows.{row, Rowwise, RowByRow, Narrowed, StartOf}
+use Rattle.set_table.specs.Rows.{row, Rowwise, RowByRow, StartOf}
 use Rattle.set_table.proofs.Turns.{Together}
-use Rattle.matrix.proofs.Marks.{at-bind, at-each-fixed}
-use Rattle.matrix.proofs.Truth.{height-flat, flat-truth, up-to-moment, any-up-agree}
+use Rattle.row_table.specs.Truth.{truth, at, Fixed, TrueAt, FalseWithout}
+use Rattle.row_table.proofs.Marks.{at-bind}
 use Rattle.matrix.specs.Matrix.{eachRow, rowed}
 use Rattle.matrix.proofs.Rowed.{rowed-mark}
 
--- ── at once ──
--- a body without "some" does not depend on the moment: from the first run on that satisfies it, "some" is true
-module _ (M : Model) (f : Formula) (ρ σ : Binding) (v : ℕ) (dom finished found r : RunSet) where
-  pub some-at-once : Fixed ρ → height f ≡ 0 → σ ≡ bind ρ v each → ((j : ℕ) → mem finished j ≡ ltb j (M .runs)) → TrueAt M f σ finished found
-      → Narrowed (λ j. anyUpTo j (mem found)) dom r → TrueAt M (exists v f) ρ dom r
-  unfolding eval
-  some-at-once fx low e hf ht hr j h =
-      let served : ℕ → Bool = λ i. truth M f (bind (at ρ j) v i) j in
-      let one : (i : ℕ) → i ≤ j → mem found i ≡ (ltb i (M .runs) && served i) =
-      λ i l.
-      ht i (omega (arith, l))
-      ∙ ap₂ _&&_ (hf i)
-      (ap (λ (τ : Binding). truth M f τ i) (ap (λ (τ : Binding). at τ i) e ∙ at-each-fixed ρ v i j fx) ∙ flat-truth M i j f (bind (at ρ j) v i) (height-flat f low)) in
-      hr j h ∙ ap (λ (x : Bool). mem dom j && x) (any-up-agree (mem found) (λ i. ltb i (M .runs) && served i) j one ∙ up-to-moment (M .runs) j served)
-
--- ── the search by rows ──
 -- With k: run i is kept, d: the moment is in dom, l: run i is finished, f: the body holds with it.
 kept-serves : (k d l f : Bool) → (k ≡ false → f ≡ false) → ((k && (d && l)) && f) ≡ (d && (l && f))
 kept-serves true d l f h = and-assoc d l f

@@ -1,4 +1,2 @@
-pub mod Truth
-pub mod Rows
 pub mod Matrix
 pub mod Ready

@@ -4,7 +4,7 @@ use Prim.Native.Nat.{ℕ}
 use mathlib.Core.Bool.{cond}
 use lib.Dec.{eqb}
 use Rattle.logic.specs.Satisfies.{Binding}
-use Rattle.matrix.specs.Truth.{each}
+use Rattle.row_table.specs.Truth.{each}
 
 -- the mark of a variable that stands in row k for run k
 abbrev pub eachRow : ℕ

@@ -3,28 +3,16 @@
 use Prim.Native.Nat.{ℕ, _≤_}
 use mathlib.Core.Path.{_≡_}
 use mathlib.Core.List.{List}
-use lib.ListN.{length, getD}
+use lib.ListN.{length}
 use Rattle.lists.specs.Limits.{maxRuns}
 use Rattle.rules.specs.Parts.{labelCount}
 use Rattle.rules.specs.Table.{Good, formulaAt}
-use Rattle.logic.specs.Satisfies.{Binding}
 use Rattle.shape.specs.Shape.{height}
-use Rattle.matrix.specs.declared.Rank.{Rank}
-use Rattle.matrix.specs.declared.Bindings.{Bindings}
-use Rattle.matrix.specs.Truth.{each}
-use Rattle.matrix.specs.Rows.{labelRows, tableWords}
+use Rattle.row_table.specs.declared.Bindings.{Bindings}
+use Rattle.row_table.specs.Truth.{each}
+use Rattle.row_table.specs.Rows.{labelRows, tableWords}
+use Rattle.row_table.specs.Ranks.{binding}
 use Rattle.matrix.specs.Matrix.{eachRow}
-
-abbrev pub rank : ℕ → Rank
-rank r = record { 0 = r }
-
--- the rank that each variable stands for, as a binding of the logic
-abbrev pub binding : Bindings → Binding
-binding b v = getD (b .run) v (rank 0) .0
-
--- each variable stands for a rank, or is marked for each run
-abbrev pub InRange : Bindings → Type 0
-InRange b = (v : ℕ) → binding b v ≤ each
 
 -- All that evaluating node n in a matrix needs. No "some" lies inside another in it, and none at all where a variable stands for
 -- each run already.

@@ -13,10 +13,10 @@ use Rattle.lists.specs.Tells.{Tells}
 use Rattle.lists.proofs.Cases.{either-eq, either-lt, no-both, and-left, and-right}
 use Rattle.sets.specs.Sets.{bit}
 use Rattle.sets.proofs.Bits.{bit-and, bit-or, bit-zero, bit-self, bit-high, bit-trailing}
-use Rattle.moments.specs.Open.{Apart, Marked}
+use Rattle.moments.specs.Open.{NoneShared, Marked}
 
 -- ── masks with nothing in common ──
-none-common : (a b : ℕ) → bitAnd a b ≡ 0 → Apart a b
+none-common : (a b : ℕ) → bitAnd a b ≡ 0 → NoneShared a b
 none-common a b e v q = go (bit b v) refl
   where
     go : (x : Bool) → bit b v ≡ x → x ≡ false
@@ -24,7 +24,7 @@ none-common a b e v q = go (bit b v) refl
     go false f = refl
 
 -- the lowest bit that both have
-common : (a b : ℕ) → a < 256 → (bitAnd a b ≡ 0 → ⊥) → Apart a b → ⊥
+common : (a b : ℕ) → a < 256 → (bitAnd a b ≡ 0 → ⊥) → NoneShared a b → ⊥
 common a b l n h =
     let q = bitAnd a b in
     let low = and-le-l a b in
@@ -32,7 +32,7 @@ common a b l n h =
     let e : (bit a t && bit b t) ≡ true = sym (bit-and a b t) ∙ bit-trailing 8 q (omega (arith, n)) (omega arith) in
     no-both (sym (and-right (bit a t) (bit b t) e) ∙ h t (and-left (bit a t) (bit b t) e))
 
-pub apart-tells : (a b : ℕ) → a < 256 → Tells (eqb (bitAnd a b) 0) (Apart a b)
+pub apart-tells : (a b : ℕ) → a < 256 → Tells (eqb (bitAnd a b) 0) (NoneShared a b)
 apart-tells a b l = record { yes = λ e. none-common a b (eqb-true (bitAnd a b) 0 e); no = λ e. common a b l (eqb-false (bitAnd a b) 0 e) }
 
 -- ── one variable more ──

@@ -17,13 +17,13 @@ use Rattle.rules.specs.declared.Node.{Node}
 use Rattle.rules.proofs.Formulas.{formula-and, formula-some}
 use Rattle.logic.specs.Satisfies.{Binding, bind}
 use Rattle.logic.specs.Model.{Model, eval}
-use Rattle.matrix.specs.Truth.{truth, each, at, Fixed, TrueAt, FalseWithout}
+use Rattle.row_table.specs.Truth.{truth, each, at, Fixed, TrueAt, FalseWithout}
 use Rattle.shape.specs.Shape.{flat?, free?}
 use Rattle.moments.specs.Shape.{Heights, Frees}
-use Rattle.moments.specs.Open.{Keeps, Apart, Marked}
-use Rattle.matrix.proofs.Marks.{at-each-fixed}
+use Rattle.moments.specs.Open.{Keeps, NoneShared, Marked}
+use Rattle.row_table.proofs.Marks.{at-each-fixed}
 use Rattle.moments.proofs.Masks.{marked-on, marked-more}
-use Rattle.matrix.proofs.Truth.{height-flat, flat-truth, free-truth}
+use Rattle.row_table.proofs.Truth.{height-flat, flat-truth, free-truth}
 
 -- ── formulas ──
 module _ (M : Model) (ρ : Binding) where
@@ -72,7 +72,7 @@ module _ (M : Model) (ρ : Binding) (file : List ℕ) (p n : ℕ) (x : Node) (is
   keeps-some any more r k m h = rw (formula-some file p n x is good k) (keep-some M ρ (x .a) _ (bit any) (bit more) dom r (marked-on any (x .a) more m) (marked-more any (x .a) more m) h)
 
 pub keeps-flat : (M : Model) (ρ : Binding) (file : List ℕ) (p n : ℕ) (heights frees : List ℕ) (any : ℕ) (dom r : RunSet) → Heights file p n heights → Frees file p n frees
-    → (getD heights n 0 ≡ 0) × Apart (getD frees n 0) any → TrueAt M (formulaAt file p n) ρ dom r → Keeps M ρ (formulaAt file p n) (bit any) dom r
+    → (getD heights n 0 ≡ 0) × NoneShared (getD frees n 0) any → TrueAt M (formulaAt file p n) ρ dom r → Keeps M ρ (formulaAt file p n) (bit any) dom r
 keeps-flat M ρ file p n heights frees any dom r hi fr q h =
     keep-flat M ρ (formulaAt file p n) (bit any) dom r (height-flat (formulaAt file p n) (sym (hi .high n (omega arith)) ∙ q .0)) (λ w u. q .1 w (fr .free n (omega arith) w u)) h
 

@@ -10,11 +10,12 @@ use Rattle.rules.specs.Table.{nodeAt, AtomOk}
 use Rattle.rules.proofs.Formulas.{good-child, and-left-child, and-right-child, not-child, some-child, atom-fields}
 use Rattle.logic.specs.Satisfies.{Binding, bind}
 use Rattle.logic.proofs.Nodes.{atom-more}
-use Rattle.matrix.specs.declared.Bindings.{Bindings}
-use Rattle.matrix.specs.Truth.{Fixed}
-use Rattle.matrix.specs.Ready.{binding, RowsReady}
+use Rattle.row_table.specs.declared.Bindings.{Bindings}
+use Rattle.row_table.specs.Truth.{Fixed}
+use Rattle.row_table.specs.Ranks.{binding}
+use Rattle.matrix.specs.Ready.{RowsReady}
 use Rattle.moments.specs.Ready.{Ready}
-use Rattle.matrix.proofs.Marks.{bind-within}
+use Rattle.row_table.proofs.Marks.{bind-within}
 
 module _ (file : List ℕ) (p : ℕ) (heights frees table : List ℕ) (runs n : ℕ) (b : Bindings) (h : Ready file p heights frees table runs n b) where
   -- a smaller number, ready too

@@ -12,8 +12,8 @@ use Rattle.set_table.specs.Rows.{LeftOf}
 use Rattle.rules.specs.Formula.{Formula, exists}
 use Rattle.logic.specs.Satisfies.{Binding, bind}
 use Rattle.logic.specs.Model.{Model, eval}
-use Rattle.matrix.specs.Truth.{truth, at, TrueAt, FalseWithout}
-use Rattle.matrix.proofs.Marks.{at-bind}
+use Rattle.row_table.specs.Truth.{truth, at, TrueAt, FalseWithout}
+use Rattle.row_table.proofs.Marks.{at-bind}
 
 -- With d: the moment is in dom, a: a run tried before serves, l: run r is finished, f: the body holds with run r, k: run r is kept.
 one-more : (d a l f k : Bool) → (k ≡ false → f ≡ false) → ((d && a) || ((k && ((d && l) && not (d && a))) && f)) ≡ (d && (a || (l && f)))

@@ -10,7 +10,7 @@ use Rattle.sets.specs.declared.RunSet.{RunSet}
 use Rattle.rules.specs.Formula.{Formula}
 use Rattle.logic.specs.Satisfies.{Binding}
 use Rattle.logic.specs.Model.{Model}
-use Rattle.matrix.specs.Truth.{truth, at}
+use Rattle.row_table.specs.Truth.{truth, at}
 
 -- r lies inside dom, and keeps each run j of dom for which f is true at some moment, whatever the variables in `any` stand for
 pub record Keeps (M : Model) (ρ : Binding) (f : Formula) (any : ℕ → Bool) (dom r : RunSet) : Type 0 where
@@ -19,8 +19,8 @@ pub record Keeps (M : Model) (ρ : Binding) (f : Formula) (any : ℕ → Bool) (
 
 -- ── masks: bit v for variable v ──
 -- no variable is in both masks
-abbrev pub Apart : ℕ → ℕ → Type 0
-Apart a b = (v : ℕ) → bit a v ≡ true → bit b v ≡ false
+abbrev pub NoneShared : ℕ → ℕ → Type 0
+NoneShared a b = (v : ℕ) → bit a v ≡ true → bit b v ≡ false
 
 -- r is mask b with variable v
 abbrev pub Marked : ℕ → ℕ → ℕ → Type 0

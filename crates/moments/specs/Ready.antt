@@ -6,9 +6,9 @@ use lib.ListN.{length}
 use Rattle.lists.specs.Limits.{maxRuns}
 use Rattle.rules.specs.Parts.{labelCount}
 use Rattle.rules.specs.Table.{Good}
-use Rattle.matrix.specs.declared.Bindings.{Bindings}
-use Rattle.matrix.specs.Rows.{labelRows, tableWords}
-use Rattle.matrix.specs.Ready.{InRange}
+use Rattle.row_table.specs.declared.Bindings.{Bindings}
+use Rattle.row_table.specs.Rows.{labelRows, tableWords}
+use Rattle.row_table.specs.Ranks.{InRange}
 use Rattle.moments.specs.Shape.{Heights, Frees}
 
 -- all that evaluating node n needs

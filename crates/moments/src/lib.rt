@@ -5,5 +5,5 @@
 mod search;
 pub mod times;
 
-pub use matrix::Bindings;
-pub use matrix::Rank;
+pub use row_table::Bindings;
+pub use row_table::Rank;

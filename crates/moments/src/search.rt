@@ -5,11 +5,11 @@ ghost use Prim.Native.Nat.{_<_};
 ghost use lib.ListN.{length, getD};
 ghost use Rattle.lists.specs.Tells.{Tells};
 ghost use Rattle.rules.specs.Limits.{variables};
-ghost use Rattle.matrix.specs.Truth.{Fixed};
-ghost use Rattle.moments.specs.Open.{Apart, Marked};
-ghost use Rattle.matrix.specs.Ready.{binding, InRange};
+ghost use Rattle.row_table.specs.Truth.{Fixed};
+ghost use Rattle.moments.specs.Open.{NoneShared, Marked};
+ghost use Rattle.row_table.specs.Ranks.{binding, InRange};
 use crate::Bindings;
-use matrix::ranks::fixed;
+use row_table::ranks::fixed;
 use sets::RunSet;
 
 // Up to so many runs of a word are few.
@@ -38,7 +38,7 @@ fn many(s: RunSet) -> bool {
 
 // Whether two masks have no variable in common.
 fn apart(a: u8, b: u8) -> bool
-    ensures { λ r. ⌜ Tells r (Apart a b) ⌝ }
+    ensures { λ r. ⌜ Tells r (NoneShared a b) ⌝ }
 {
     a & b == 0
 }
@@ -54,7 +54,7 @@ pub fn marked(b: u8, v: usize) -> u8
 // Whether a node has no "some" and none of the variables of a mask stands free in it.
 pub fn closed(heights: &[u8], frees: &[u8], node: usize, any: u8) -> bool
     requires { ⌜ (node < length (now heights)) × (node < length (now frees)) ⌝ }
-    ensures { λ r. ⌜ Tells r ((getD (now (heights .entry)) node 0 ≡ 0) × Apart (getD (now (frees .entry)) node 0) any) ⌝ }
+    ensures { λ r. ⌜ Tells r ((getD (now (heights .entry)) node 0 ≡ 0) × NoneShared (getD (now (frees .entry)) node 0) any) ⌝ }
 {
     if heights[node] == 0 {
         apart(frees[node], any)

@@ -1,26 +1,15 @@
 // The calls, on what they are handed.
 use super::answers;
 use super::handed;
-use super::handed::State;
 use lines::Next;
-use monitor::Ending;
-use monitor::LogRead;
-use monitor::Outcome;
 use monitor::Tallied;
-use monitor::Tally;
-use trace::Record;
 
-// The call on a line that a kind stands for.
-fn call(kind: u8, file: &[u8], r: Record, y: Tally, work: &mut [u8], line: &[u8]) -> Tallied {
-    if kind == b'T' {
-        return monitor::check_line_tallied(file, r, y, work, line);
-    }
-    if kind == b'L' {
-        return monitor::lend_tally(file, r, y, work, line);
-    }
-    let c = monitor::check_line(file, r, work, line);
+// The call on a line without a tally, which stays.
+fn plain(s: Tallied, file: &[u8], work: &mut [u8], line: &[u8]) -> Tallied {
+    let c = monitor::check_line(file, s.state, work, line);
     let q = c.state;
     let o = c.outcome;
+    let y = s.tally;
     Tallied {
         state: q,
         tally: y,
@@ -28,120 +17,147 @@ fn call(kind: u8, file: &[u8], r: Record, y: Tally, work: &mut [u8], line: &[u8]
     }
 }
 
-// The same, with the first n bytes of a file and the first w of a work area.
-fn call_in(
-    kind: u8,
-    file: &[u8],
-    n: usize,
-    r: Record,
-    y: Tally,
-    work: &mut [u8],
-    w: usize,
-    line: &[u8],
-) -> Tallied {
-    if n <= file.len() {
-        if w <= work.len() {
-            return call(kind, &file[0..n], r, y, &mut work[0..w], line);
-        }
+// The call on a line that a kind stands for.
+fn call(s: Tallied, kind: u8, file: &[u8], work: &mut [u8], line: &[u8]) -> Tallied {
+    if kind == b'T' {
+        return monitor::check_line_tallied(file, s.state, s.tally, work, line);
     }
-    Tallied {
-        state: r,
-        tally: y,
-        outcome: Outcome::Refused(0),
+    if kind == b'L' {
+        return monitor::lend_tally(file, s.state, s.tally, work, line);
     }
+    plain(s, file, work, line)
 }
 
 // One line: the answer is written, and what is handed back is handed on.
-pub fn one_line(s: State, kind: u8, line: &[u8]) -> State {
-    let file = s.file;
-    let mut area = s.area;
-    let r = s.record;
-    let y = s.tally;
-    let a = call_in(kind, &file, s.rule, r, y, &mut area, s.work, line);
-    answers::line(kind, s, a, area);
-    let x = a.state;
-    let mut q = handed::standing(s, x, area, s.work);
-    let z = a.tally;
-    q.tally = z;
-    q
+fn one_line(s: Tallied, kind: u8, file: &[u8], work: &mut [u8], line: &[u8]) -> Tallied {
+    let a = call(s, kind, file, work, line);
+    if kind != b'q' {
+        answers::line(kind, a, work);
+        test_text::write(b"\n");
+    }
+    a
+}
+
+// The same, and whether the record and the work area are as they were.
+fn compared(s: Tallied, file: &[u8], work: &mut [u8], line: &[u8]) -> Tallied {
+    let mut before = [0u8; 16400];
+    answers::copy(work, &mut before);
+    let a = plain(s, file, work, line);
+    answers::line(b'D', a, work);
+    answers::kept(s.state, a.state, &before, work);
+    a
 }
 
 // The line that stands in a log from start to before end.
-fn part(s: State, kind: u8, log: &[u8], start: usize, end: usize) -> State {
+fn part(
+    s: Tallied,
+    kind: u8,
+    file: &[u8],
+    work: &mut [u8],
+    log: &[u8],
+    start: usize,
+    end: usize,
+) -> Tallied {
     if start <= end {
         if end <= log.len() {
-            return one_line(s, kind, &log[start..end]);
+            return one_line(s, kind, file, work, &log[start..end]);
         }
     }
     s
 }
 
 // What a reader hands out.
-fn next(s: State, kind: u8, log: &[u8], n: Next) -> State {
+fn next(s: Tallied, kind: u8, file: &[u8], work: &mut [u8], log: &[u8], n: Next) -> Tallied {
     match n {
-        Next::Line { start, end } => part(s, kind, log, start, end),
+        Next::Line { start, end } => part(s, kind, file, work, log, start, end),
         Next::Refused(_) => s,
         Next::Done => s,
     }
 }
 
 // The lines of a log, at most 256, as a reader hands them out.
-pub fn each_line(s: State, kind: u8, log: &[u8]) -> State {
+fn each_line(s: Tallied, kind: u8, file: &[u8], work: &mut [u8], log: &[u8]) -> Tallied {
     let mut q = s;
     let mut place: usize = 0;
     let mut left: usize = 256;
     while 0 < left {
         let a = lines::line_from(log, place);
         let n = a.next;
-        q = next(q, kind, log, n);
+        q = next(q, kind, file, work, log, n);
         place = a.place;
         left -= 1;
     }
     q
 }
 
-// The call on a whole log, with the first n, w and v bytes of a file, a work area and a verdict buffer.
-fn log_in(
-    file: &[u8],
-    n: usize,
-    log: &[u8],
-    work: &mut [u8],
-    w: usize,
-    verdicts: &mut [u8],
-    v: usize,
-) -> LogRead {
-    if n <= file.len() {
-        if w <= work.len() {
-            if v <= verdicts.len() {
-                return monitor::check_log(&file[0..n], log, &mut work[0..w], &mut verdicts[0..v]);
-            }
+// A whole log: the answer is written.
+fn whole_in(file: &[u8], log: &[u8], work: &mut [u8], bytes: &mut [u8]) {
+    let a = monitor::check_log(file, log, work, bytes);
+    answers::log(a, work, bytes);
+}
+
+// The same in a work area of w bytes and a verdict buffer of v bytes.
+fn whole(file: &[u8], log: &[u8], w: usize, v: usize) {
+    let mut area = [7u8; 16400];
+    let mut bytes = [9u8; 260];
+    if w <= 16400 {
+        if v <= 260 {
+            whole_in(file, log, &mut area[0..w], &mut bytes[0..v]);
         }
-    }
-    let none = trace::no_lines();
-    LogRead {
-        state: none,
-        ending: Ending::Read,
     }
 }
 
-// A whole log: the answer is written; or the record and the work area are handed on.
-pub fn whole(s: State, kind: u8, log: &[u8]) -> State {
-    let file = s.file;
-    let mut area = [7u8; 16400];
+// A whole log: the record and the work area are handed on.
+fn kept(s: Tallied, file: &[u8], log: &[u8], work: &mut [u8]) -> Tallied {
     let mut bytes = [9u8; 260];
-    let a = log_in(
-        &file,
-        s.rule,
-        log,
-        &mut area,
-        s.work,
-        &mut bytes,
-        s.verdicts,
-    );
-    if kind == b'w' {
-        answers::log(a, &area, s.work, &bytes, s.verdicts);
+    test_text::fill(work, 7);
+    let a = monitor::check_log(file, log, work, &mut bytes);
+    let mut q = s;
+    let r = a.state;
+    q.state = r;
+    q
+}
+
+// The call of a kind: 1 on one line, 2 on a line with what it leaves compared, 3 on each line, 4 and 5 on a whole log; 0 for none.
+fn call_of(kind: u8) -> u8 {
+    match kind {
+        b'i' => 1,
+        b'D' => 2,
+        b'l' | b'q' | b'T' | b'L' => 3,
+        b'w' => 4,
+        b'k' => 5,
+        _ => 0,
+    }
+}
+
+fn called(s: Tallied, kind: u8, log: &[u8], file: &[u8], work: &mut [u8], v: usize) -> Tallied {
+    let k = call_of(kind);
+    if k == 1 {
+        return one_line(s, kind, file, work, log);
+    }
+    if k == 2 {
+        return compared(s, file, work, log);
+    }
+    if k == 3 {
+        return each_line(s, kind, file, work, log);
+    }
+    if k == 5 {
+        return kept(s, file, log, work);
+    }
+    whole(file, log, work.len(), v);
+    s
+}
+
+// What a case leaves.
+pub fn case(s: Tallied, kind: u8, text: &[u8], file: &[u8], work: &mut [u8], v: usize) -> Tallied {
+    if kind == b'=' {
+        test_text::write_line(text);
         return s;
     }
-    let r = a.state;
-    handed::standing(s, r, area, s.work)
+    if call_of(kind) == 0 {
+        return handed::set(s, kind, text, work);
+    }
+    let mut log = [0u8; 2048];
+    let n = test_cases::bytes(text, &mut log);
+    called(s, kind, &log[..n], file, work, v)
 }

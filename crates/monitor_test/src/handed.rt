@@ -1,16 +1,46 @@
-// What the calls are handed, as the cases before say.
+// What the calls are handed, as the cases before say: a rule, a work area and a verdict buffer of some sizes, a record and a tally.
+use monitor::Outcome;
+use monitor::Tallied;
 use monitor::Tally;
 use trace::Record;
 
-// The rule's bytes are the first of `file`, the work area's the first of `area`.
-pub struct State {
-    pub file: [u8; 640],
+// How many bytes of the rule file, the work area and the verdict buffer are in use.
+pub struct Sizes {
     pub rule: usize,
-    pub record: Record,
-    pub tally: Tally,
-    pub area: [u8; 16400],
     pub work: usize,
     pub verdicts: usize,
+}
+
+// What stands from case to case, beside the bytes. The outcome has no part.
+pub struct State {
+    pub held: Tallied,
+    pub sizes: Sizes,
+}
+
+// The sizes after a case that gives the rule, the verdict buffer or the work area, or changes a byte of it.
+pub fn sized(z: Sizes, kind: u8, text: &[u8], file: &mut [u8], area: &mut [u8]) -> Sizes {
+    let mut q = z;
+    if kind == b'r' {
+        q.rule = test_cases::bytes(text, file);
+        return q;
+    }
+    let n = test_cases::size(text, 0);
+    let b = test_cases::byte(text, 1);
+    if kind == b'a' {
+        test_text::fill(area, b);
+        q.work = n;
+        return q;
+    }
+    if kind == b'A' {
+        if n < area.len() {
+            area[n] = b;
+        }
+        return q;
+    }
+    if kind == b'v' {
+        q.verdicts = n;
+    }
+    q
 }
 
 fn tally(text: &[u8]) -> Tally {
@@ -27,128 +57,40 @@ fn tally(text: &[u8]) -> Tally {
 pub fn nothing() -> State {
     let none = trace::no_lines();
     let zeros = tally(b"");
-    State {
-        file: [0u8; 640],
-        rule: 0,
-        record: none,
+    let held = Tallied {
+        state: none,
         tally: zeros,
-        area: [7u8; 16400],
+        outcome: Outcome::Holds,
+    };
+    let sizes = Sizes {
+        rule: 0,
         work: 16400,
         verdicts: 260,
-    }
+    };
+    State { held, sizes }
 }
 
-// The record that is started in the first w bytes of a work area.
-fn started(work: &mut [u8], w: usize) -> Record {
-    if w <= work.len() {
-        let s = pairs::start_record(&mut work[0..w]);
-        return s.state;
-    }
-    trace::no_lines()
-}
-
-// A work area of one byte.
-fn area(b: u8) -> [u8; 16400] {
-    if b == 0 { [0u8; 16400] } else { [7u8; 16400] }
-}
-
-// The work area whose byte at a place is b.
-fn with_byte(area: [u8; 16400], at: usize, b: u8) -> [u8; 16400] {
-    let mut x = area;
-    if at < 16400 {
-        x[at] = b;
-    }
-    x
-}
-
-// The state with another record and another work area of w bytes.
-pub fn standing(s: State, r: Record, area: [u8; 16400], w: usize) -> State {
-    let file = s.file;
-    let y = s.tally;
-    State {
-        file: file,
-        rule: s.rule,
-        record: r,
-        tally: y,
-        area: area,
-        work: w,
-        verdicts: s.verdicts,
-    }
-}
-
-// The state with another rule.
-fn ruled(s: State, text: &[u8]) -> State {
-    let mut file = [0u8; 640];
-    let n = test_cases::bytes(text, &mut file);
-    let r = s.record;
-    let y = s.tally;
-    let area = s.area;
-    State {
-        file: file,
-        rule: n,
-        record: r,
-        tally: y,
-        area: area,
-        work: s.work,
-        verdicts: s.verdicts,
-    }
-}
-
-// Of the work area and the verdict buffer.
-fn set_buffers(s: State, kind: u8, text: &[u8]) -> State {
-    let r = s.record;
-    let mut x = s.area;
-    let n = test_cases::size(text, 0);
-    let b = test_cases::byte(text, 1);
-    if kind == b'a' {
-        return standing(s, r, area(b), n);
-    }
-    if kind == b'A' {
-        return standing(s, r, with_byte(x, n, b), s.work);
-    }
+// The record that a case gives.
+fn record(r: Record, kind: u8, text: &[u8], work: &mut [u8]) -> Record {
     if kind == b's' {
-        let q = started(&mut x, s.work);
-        return standing(s, q, x, s.work);
-    }
-    let mut q = s;
-    if kind == b'v' {
-        q.verdicts = n;
-    }
-    q
-}
-
-// Whether a kind is a change of the record.
-fn changes(kind: u8) -> bool {
-    kind == b'R'
-        || kind == b'B'
-        || kind == b'N'
-        || kind == b'W'
-        || kind == b'P'
-        || kind == b'M'
-        || kind == b'C'
-}
-
-// What a case hands to the calls after it.
-pub fn set(s: State, kind: u8, text: &[u8]) -> State {
-    let mut q = s;
-    if kind == b'r' {
-        return ruled(s, text);
+        let a = pairs::start_record(work);
+        return a.state;
     }
     if kind == b'z' {
-        let none = trace::no_lines();
-        q.record = none;
-        return q;
+        return trace::no_lines();
     }
+    test_records::changed(r, kind, text)
+}
+
+// The record and the tally that a case gives.
+pub fn set(s: Tallied, kind: u8, text: &[u8], work: &mut [u8]) -> Tallied {
+    let mut q = s;
     if kind == b't' {
         let y = tally(text);
         q.tally = y;
         return q;
     }
-    if changes(kind) {
-        let r = s.record;
-        let x = test_records::changed(r, kind, text);
-        q.record = x;
-        return q;
-    }
-    set_buffers(s, kind, text)
+    let r = record(s.state, kind, text, work);
+    q.state = r;
+    q
 }

@@ -24,49 +24,46 @@ mod answers;
 mod calls;
 mod handed;
 
+use handed::Sizes;
 use handed::State;
 use libc::STDIN_FILENO;
+use monitor::Tallied;
 
-// The cases that call.
-fn called(s: State, kind: u8, text: &[u8]) -> State {
-    let mut room = [0u8; 2048];
-    let n = test_cases::bytes(text, &mut room);
-    if kind == b'i' || kind == b'D' {
-        return calls::one_line(s, kind, &room[..n]);
-    }
-    if kind == b'w' || kind == b'k' {
-        return calls::whole(s, kind, &room[..n]);
-    }
-    if kind == b'l' || kind == b'q' || kind == b'T' || kind == b'L' {
-        return calls::each_line(s, kind, &room[..n]);
+// A case with a rule and a work area of the given sizes.
+fn case_in(s: Tallied, kind: u8, text: &[u8], z: Sizes, file: &[u8], area: &mut [u8]) -> Tallied {
+    let n = z.rule;
+    let w = z.work;
+    if n <= file.len() {
+        if w <= area.len() {
+            return calls::case(s, kind, text, &file[0..n], &mut area[0..w], z.verdicts);
+        }
     }
     s
 }
 
 // The state after a case.
-fn after(s: State, kind: u8, text: &[u8]) -> State {
-    if kind == b'=' {
-        test_text::write(text);
-        test_text::write(b"\n");
-        return s;
-    }
-    called(handed::set(s, kind, text), kind, text)
+fn after(s: State, kind: u8, text: &[u8], file: &mut [u8], area: &mut [u8]) -> State {
+    let z = handed::sized(s.sizes, kind, text, file, area);
+    let x = case_in(s.held, kind, text, z, file, area);
+    State { held: x, sizes: z }
 }
 
-fn run(input: &[u8]) {
-    let mut s = handed::nothing();
+fn run(first: State, input: &[u8], file: &mut [u8], area: &mut [u8]) {
+    let mut s = first;
     let mut at: usize = 0;
     while at < input.len() {
         let c = test_cases::case_at(input, at);
         let start = c.start;
         let end = c.end;
-        s = after(s, c.kind, &input[start..end]);
+        s = after(s, c.kind, &input[start..end], file, area);
         at = c.next;
     }
 }
 
 fn main() {
     let mut input = io::large_buffer();
+    let mut file = [0u8; 640];
+    let mut area = [7u8; 16400];
     let n = io::read_full(STDIN_FILENO, &mut input);
-    run(&input[..n]);
+    run(handed::nothing(), &input[..n], &mut file, &mut area);
 }

@@ -6,7 +6,8 @@ use native.Mathlib.Omega.{arith}
 use lib.ListN.{length}
 use borrow.Author.Tests.{lt-ltb}
 use Rattle.trace.specs.Trace.{Trace, runAt, Accepted}
-use Rattle.trace.proofs.Accepted.{Orderly, accepted-orderly}
+use Rattle.trace.specs.Orderly.{Orderly}
+use Rattle.trace.proofs.Accepted.{accepted-orderly}
 use Rattle.pairs.specs.Pairs.{pairByte}
 use Rattle.pairs.specs.Word.{InLog, nameOf, wordOf}
 use Rattle.pairs.proofs.Word.{pair-word}

@@ -1,46 +1,51 @@
 // A work area: what stands in it, and its pair bytes brought up to date and compared.
-use trace::Record;
 use trace::RunNo;
+use trace::RunTable;
 
-// How many bytes of the area are b.
-pub fn count(work: &[u8], b: u8) -> u64 {
-    let mut n: u64 = 0;
-    let mut i: usize = 0;
-    while i < work.len() {
-        if work[i] == b {
-            n += 1;
+// The length of the area after a case; a new one holds 7s.
+pub fn sized(n: usize, kind: u8, text: &[u8], work: &mut [u8]) -> usize {
+    if kind == b'a' {
+        test_text::fill(work, 7);
+        return test_cases::size(text, 0);
+    }
+    if kind == b'x' {
+        let at = test_cases::size(text, 0);
+        if at < work.len() {
+            work[at] = test_cases::byte(text, 1);
         }
-        i += 1;
     }
     n
 }
 
-// Writes the byte at a place, `-` past the end.
-pub fn show_byte(work: &[u8], at: usize) {
+// The byte at a place, 256 past the end.
+fn byte(work: &[u8], at: usize) -> u64 {
     if at < work.len() {
-        let b = work[at];
-        test_text::write_number(test_text::wide(b));
-    } else {
-        test_text::write(b"-");
+        return test_text::wide(work[at]);
     }
+    256
 }
 
-// Writes the first byte, the last, and the count of 7s.
-pub fn show_area(work: &[u8]) {
-    test_text::write(b"first ");
-    show_byte(work, 0);
-    test_text::write(b", last ");
-    if 0 < work.len() {
-        show_byte(work, work.len() - 1);
-    }
-    test_text::write(b", sevens ");
-    test_text::write_number(count(work, 7));
-    test_text::write(b"\n");
+// Writes a text with the numbers of the area and a count of lines.
+pub fn show(text: &[u8], lines: u64, work: &[u8]) {
+    let last = std::num::wrapping_sub_usize(work.len(), 1);
+    let numbers = [
+        byte(work, 1),
+        byte(work, 2),
+        byte(work, 130),
+        byte(work, 128),
+        byte(work, 0),
+        byte(work, last),
+        test_text::count(work, 0),
+        test_text::count(work, 1),
+        test_text::count(work, 6),
+        test_text::count(work, 7),
+        lines,
+    ];
+    test_text::write_filled(text, &numbers);
 }
 
 // Brings the bytes of run k up to date.
-pub fn refresh(r: Record, k: RunNo, work: &mut [u8]) {
-    let runs = r.runs;
+pub fn refresh(runs: RunTable, k: RunNo, work: &mut [u8]) {
     let n = runs.count;
     if (k.0 as usize) < n {
         if n <= 128 {
@@ -51,14 +56,12 @@ pub fn refresh(r: Record, k: RunNo, work: &mut [u8]) {
     }
 }
 
-// Whether the area has the pair bytes of the record.
-pub fn matches(r: Record, work: &[u8]) -> bool {
-    let runs = r.runs;
+// Ends a line with whether the area has the pair bytes of the runs.
+pub fn show_match(runs: RunTable, work: &[u8]) {
     let n = runs.count;
     if n <= 128 {
         if 16384 <= work.len() {
-            return pairs::pairs_match(runs, work);
+            test_text::write_answer(pairs::pairs_match(runs, work));
         }
     }
-    false
 }

@@ -41,6 +41,6 @@ abbrev pub Numbered : List ℕ → List ℕ → Type 0
 Numbered values table = (v j : ℕ) → v ≤ maxLogLabels → j < maxRuns → mem (row table v) j ≡ eqb (getD values j 0) v
 
 -- a value for each rank, none above the limit
-pub record Fits (values : List ℕ) (limit : ℕ) : Type 0 where
+pub record FitsBelow (values : List ℕ) (limit : ℕ) : Type 0 where
   pub long : maxRuns ≤ length values
   pub low : (i : ℕ) → i < maxRuns → getD values i 0 ≤ limit

@@ -10,7 +10,7 @@ ghost use lib.ListN.{length};
 ghost use Rattle.lists.specs.Limits.{maxRuns, maxLines, maxLogLabels};
 ghost use Rattle.sets.specs.Sets.{mem};
 ghost use Rattle.set_table.specs.Rows.{row};
-ghost use Rattle.rank_tables.specs.Tables.{lineWords, labelWords, Gained, Spread, Earlier, Numbered, Fits};
+ghost use Rattle.rank_tables.specs.Tables.{lineWords, labelWords, Gained, Spread, Earlier, Numbered, FitsBelow};
 use lists::MAX_LINES;
 use lists::MAX_LOG_LABELS;
 use lists::MAX_RUNS;
@@ -46,7 +46,7 @@ fn gain(table: &mut [u64], v: usize, i: usize)
 
 // Each row gains the ranks that have its number as their value.
 fn gain_values(values: &[usize], limit: usize, table: &mut [u64])
-    requires { ⌜ Fits (now values) limit × (2 * limit + 1 < length (now table)) ⌝ }
+    requires { ⌜ FitsBelow (now values) limit × (2 * limit + 1 < length (now table)) ⌝ }
     ensures { λ u. ⌜ Gained (now (values .entry)) (now (table .entry)) (now (table .exit)) maxRuns ⌝ }
 {
     let mut i: usize = 0;
@@ -74,7 +74,7 @@ fn spread(table: &mut [u64], rows: usize)
 
 // For each line, the ranks whose value is below it.
 pub fn earlier(values: &[usize]) -> [u64; LINE_WORDS]
-    requires { ⌜ Fits (now values) maxLines ⌝ }
+    requires { ⌜ FitsBelow (now values) maxLines ⌝ }
     ensures { λ w. ⌜ (length w ≡ lineWords) × Earlier (now (values .entry)) w ⌝ }
 {
     let mut table = [0u64; LINE_WORDS];
@@ -85,7 +85,7 @@ pub fn earlier(values: &[usize]) -> [u64; LINE_WORDS]
 
 // For each label number, the ranks that have it.
 pub fn numbered(values: &[usize]) -> [u64; LABEL_WORDS]
-    requires { ⌜ Fits (now values) maxLogLabels ⌝ }
+    requires { ⌜ FitsBelow (now values) maxLogLabels ⌝ }
     ensures { λ w. ⌜ (length w ≡ labelWords) × Numbered (now (values .entry)) w ⌝ }
 {
     let mut table = [0u64; LABEL_WORDS];

@@ -14,7 +14,7 @@ use Rattle.trace.specs.declared.Run.{Run}
 use Rattle.trace.specs.declared.Record.{Record}
 use Rattle.trace.specs.Trace.{line, noRun}
 use Rattle.record_bytes.specs.Joined.{values}
-use Rattle.record_bytes.specs.Form.{runsAt, runSize, labelsAt, labelSize, placesAt, u16Bytes, countByte, headBytes, runBytes, labelBytes, runsBytes, labelsBytes, placesBytes, recordBytes, byteAt, u16At, runFrom, labelFrom, runsFrom, labelsFrom, placesFrom, recordFrom}
+use Rattle.record_bytes.specs.Form.{runsAt, runSize, labelsAt, labelSize, placesAt, u16Bytes, countByte, headBytes, runBytes, packedLabel, runsBytes, labelsBytes, placesBytes, recordBytes, byteAt, u16At, runFrom, labelFrom, runsFrom, labelsFrom, placesFrom, recordFrom}
 use Rattle.record_bytes.proofs.Joined.{joined-at, values-at, value-at, values-are}
 use Rattle.record_bytes.proofs.Form.{head-long, run-long, label-long, runs-long, labels-long}
 
@@ -82,11 +82,11 @@ module _ (r : Record) (rest : List ℕ) where
       behind-head (7 * i + k) m (omega arith)
       ∙ joined-at 7 (λ j. runBytes (getD rs j noRun)) (λ j. run-long (getD rs j noRun)) 0 128 i k (7 * i + k) _ h b refl
 
-  label-byte : (i k m : ℕ) → i < 64 → k < 25 → m ≡ labelsAt + labelSize * i + k → byteAt parts m ≡ byteAt (labelBytes (getD ls i absent)) k
+  label-byte : (i k m : ℕ) → i < 64 → k < 25 → m ≡ labelsAt + labelSize * i + k → byteAt parts m ≡ byteAt (packedLabel (getD ls i absent)) k
   unfolding labelsBytes
   label-byte i k m h b e =
       behind-runs (25 * i + k) m (omega arith)
-      ∙ joined-at 25 (λ j. labelBytes (getD ls j absent)) (λ j. label-long (getD ls j absent)) 0 64 i k (25 * i + k) _ h b refl
+      ∙ joined-at 25 (λ j. packedLabel (getD ls j absent)) (λ j. label-long (getD ls j absent)) 0 64 i k (25 * i + k) _ h b refl
 
   place-byte : (i m : ℕ) → i < 128 → m ≡ placesAt + i → byteAt parts m ≡ getD ps i (labelNo 0) .0
   unfolding placesBytes
@@ -104,12 +104,12 @@ module _ (r : Record) (rest : List ℕ) where
       λ j. record { id = id j; begin = line (begin j); end = line (end j); label = labelNo (label j) }
 
   text-again : (i : ℕ) → i < 64 → (k : ℕ) → k < 24 → byteAt parts (labelsAt + labelSize * i + 1 + k) ≡ getD (getD ls i absent .bytes) k 0
-  unfolding labelBytes
+  unfolding packedLabel
   text-again i h k b =
       label-byte i (suc k) _ h (omega arith) (omega arith) ∙ value-at (λ j. getD (getD ls i absent .bytes) j 0) 0 24 k b
 
   label-again : (i : ℕ) → i < 64 → length (getD ls i absent .bytes) ≡ 24 → labelFrom parts i ≡ getD ls i absent
-  unfolding labelFrom labelBytes
+  unfolding labelFrom packedLabel
   label-again i h long =
       let x : Label = getD ls i absent in
       let text : values 24 (λ k. byteAt parts (labelsAt + labelSize * i + 1 + k)) ≡ x .bytes = values-are _ 0 24 (x .bytes) long (text-again i h) in

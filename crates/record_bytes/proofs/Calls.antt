@@ -8,7 +8,7 @@ use borrow.Author.Tests.{lt-ltb, le-ltb}
 use Rattle.trace.specs.declared.Record.{Record}
 use Rattle.trace.specs.Trace.{noTrace}
 use Rattle.trace.specs.Record.{recordOf, Valid}
-use Rattle.record_bytes.specs.declared.Outcome.the-variants.{Done, Refused}
+use Rattle.record_bytes.specs.declared.PackOutcome.the-variants.{Done, Refused}
 use Rattle.record_bytes.specs.declared.Unpacked.{Unpacked}
 use Rattle.record_bytes.specs.Joined.{stored}
 use Rattle.record_bytes.specs.Form.{recordSize, recordBytes, recordFrom}

@@ -12,9 +12,10 @@ use borrow.Author.Tests.{leb-true}
 use Rattle.lists.specs.Lists.{pad, all?}
 use Rattle.lists.proofs.Cases.{either-eq, either-lt, and-left}
 use Rattle.labels.specs.declared.Label.{Label}
-use Rattle.labels.specs.Label.{letter?, label?, labelOf, noLabel, absent}
+use Rattle.labels.specs.Label.{letter?, labelOf, noLabel, absent}
 use Rattle.labels.specs.Table.{indexOf, withLabel}
 use Rattle.labels.proofs.Table.{places-long, with-none, with-few, with-new}
+use Rattle.labels.proofs.Form.{label?}
 use Rattle.lines.specs.Event.{Event}
 use Rattle.lines.specs.Line.{eventOf}
 use Rattle.lines.proofs.Event.{Fine, event-fine}

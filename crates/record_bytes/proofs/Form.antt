@@ -11,7 +11,7 @@ use Rattle.trace.specs.declared.Run.{Run}
 use Rattle.trace.specs.declared.Record.{Record}
 use Rattle.trace.specs.Trace.{noRun}
 use Rattle.record_bytes.specs.Joined.{stored}
-use Rattle.record_bytes.specs.Form.{runsAt, labelsAt, placesAt, recordSize, u16Bytes, countByte, headBytes, runBytes, labelBytes, runsBytes, labelsBytes, placesBytes, recordBytes}
+use Rattle.record_bytes.specs.Form.{runsAt, labelsAt, placesAt, recordSize, u16Bytes, countByte, headBytes, runBytes, packedLabel, runsBytes, labelsBytes, placesBytes, recordBytes}
 use Rattle.record_bytes.proofs.Joined.{length-joined, length-values, stored-after, stored-one, stored-first}
 
 pub u16-long : (n : ℕ) → length (u16Bytes n) ≡ 2
@@ -26,8 +26,8 @@ pub run-long : (r : Run) → length (runBytes r) ≡ 7
 unfolding runBytes u16Bytes
 run-long r = refl
 
-pub label-long : (x : Label) → length (labelBytes x) ≡ 25
-unfolding labelBytes
+pub label-long : (x : Label) → length (packedLabel x) ≡ 25
+unfolding packedLabel
 label-long x = omega (arith, length-values (λ k. getD (x .bytes) k 0) 24)
 
 pub runs-long : (rs : List Run) → length (runsBytes rs) ≡ 896
@@ -36,7 +36,7 @@ runs-long rs = length-joined 7 (λ i. runBytes (getD rs i noRun)) (λ i. run-lon
 
 pub labels-long : (ls : List Label) → length (labelsBytes ls) ≡ 1600
 unfolding labelsBytes
-labels-long ls = length-joined 25 (λ i. labelBytes (getD ls i absent)) (λ i. label-long (getD ls i absent)) 64
+labels-long ls = length-joined 25 (λ i. packedLabel (getD ls i absent)) (λ i. label-long (getD ls i absent)) 64
 
 pub places-long : (ps : List LabelNo) → length (placesBytes ps) ≡ 128
 unfolding placesBytes

@@ -8,7 +8,9 @@ use lib.Dec.{ltb}
 use lib.ListN.{getD}
 use Rattle.labels.specs.declared.Label.{Label}
 use Rattle.labels.specs.declared.LabelNo.{LabelNo}
-use Rattle.labels.specs.Label.{labelNo, absent}
+use Rattle.lists.specs.Limits.{maxRuns, maxLogLabels}
+use Rattle.labels.specs.Label.{maxLabelBytes, labelNo, absent}
+use Rattle.labels.specs.Table.{labelPlaces}
 use Rattle.trace.specs.declared.Run.{Run}
 use Rattle.trace.specs.declared.Record.{Record}
 use Rattle.trace.specs.Trace.{line, noRun}
@@ -52,18 +54,18 @@ unfoldable pub runBytes : Run → List ℕ
 runBytes r = u16Bytes (r .id) ++ (u16Bytes (r .begin .0) ++ (u16Bytes (r .end .0) ++ (r .label .0 ∷ [])))
 
 -- a label: its length and its 24 bytes
-unfoldable pub labelBytes : Label → List ℕ
-labelBytes x = x .length ∷ values 24 (λ k. getD (x .bytes) k 0)
+unfoldable pub packedLabel : Label → List ℕ
+packedLabel x = x .length ∷ values maxLabelBytes (λ k. getD (x .bytes) k 0)
 
 unfoldable pub runsBytes : List Run → List ℕ
-runsBytes rs = joined 128 (λ i. runBytes (getD rs i noRun))
+runsBytes rs = joined maxRuns (λ i. runBytes (getD rs i noRun))
 
 unfoldable pub labelsBytes : List Label → List ℕ
-labelsBytes ls = joined 64 (λ i. labelBytes (getD ls i absent))
+labelsBytes ls = joined maxLogLabels (λ i. packedLabel (getD ls i absent))
 
 -- "the 128 places": a byte each
 unfoldable pub placesBytes : List LabelNo → List ℕ
-placesBytes ps = values 128 (λ i. getD ps i (labelNo 0) .0)
+placesBytes ps = values labelPlaces (λ i. getD ps i (labelNo 0) .0)
 
 unfoldable pub recordBytes : Record → List ℕ
 recordBytes r =
@@ -89,16 +91,16 @@ runFrom s i =
 
 -- label i
 unfoldable pub labelFrom : List ℕ → ℕ → Label
-labelFrom s i = record { bytes = values 24 (λ k. byteAt s (labelsAt + labelSize * i + 1 + k)); length = byteAt s (labelsAt + labelSize * i) }
+labelFrom s i = record { bytes = values maxLabelBytes (λ k. byteAt s (labelsAt + labelSize * i + 1 + k)); length = byteAt s (labelsAt + labelSize * i) }
 
 unfoldable pub runsFrom : List ℕ → List Run
-runsFrom s = values 128 (runFrom s)
+runsFrom s = values maxRuns (runFrom s)
 
 unfoldable pub labelsFrom : List ℕ → List Label
-labelsFrom s = values 64 (labelFrom s)
+labelsFrom s = values maxLogLabels (labelFrom s)
 
 unfoldable pub placesFrom : List ℕ → List LabelNo
-placesFrom s = values 128 (λ i. labelNo (byteAt s (placesAt + i)))
+placesFrom s = values labelPlaces (λ i. labelNo (byteAt s (placesAt + i)))
 
 unfoldable pub recordFrom : List ℕ → Record
 recordFrom s =

@@ -25,24 +25,16 @@ const RUNS_AT: usize = 4;
 
 const RUN_BYTES: usize = 7;
 
-const MAX_RUNS: usize = 128;
-
 // The first label's place, and the bytes of a label: its length and its bytes.
 const LABELS_AT: usize = 900;
 
 const LABEL_BYTES: usize = 25;
 
-const MAX_LABELS: usize = 64;
-
-const MAX_LABEL_LENGTH: usize = 24;
-
 // The place of the first of the 128 label places, of one byte each.
 const PLACES_AT: usize = 2500;
 
-const PLACES: usize = 128;
-
 // The bytes are read or written, or the number of the refusal.
-pub enum Outcome {
+pub enum PackOutcome {
     Done,
     Refused(u8),
 }
@@ -50,7 +42,7 @@ pub enum Outcome {
 // The record that bytes hold: the record of no lines where they are refused.
 pub struct Unpacked {
     pub state: Record,
-    pub outcome: Outcome,
+    pub outcome: PackOutcome,
 }
 
 // The record that the first 2,628 bytes hold, or 20 where there are fewer.
@@ -61,23 +53,23 @@ pub fn unpack(bytes: &[u8]) -> Unpacked
         let none = trace::no_lines();
         return Unpacked {
             state: none,
-            outcome: Outcome::Refused(20),
+            outcome: PackOutcome::Refused(20),
         };
     }
     let r = read::record_from(bytes);
     Unpacked {
         state: r,
-        outcome: Outcome::Done,
+        outcome: PackOutcome::Done,
     }
 }
 
 // Writes the record's bytes to the front of a buffer, or refuses with 20 and touches nothing.
-pub fn pack(r: Record, out: &mut [u8]) -> Outcome
+pub fn pack(r: Record, out: &mut [u8]) -> PackOutcome
     ensures { λ p. ⌜ Packs r (now (out .entry)) p (now (out .exit)) ⌝ }
 {
     if out.len() < RECORD_BYTES {
-        return Outcome::Refused(20);
+        return PackOutcome::Refused(20);
     }
     write::put_record(out, r);
-    Outcome::Done
+    PackOutcome::Done
 }

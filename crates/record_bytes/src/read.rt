@@ -2,21 +2,22 @@
 ghost use mathlib.Core.Path.{_≡_};
 ghost use Prim.Native.Nat.{_+_, _<_, _≤_};
 ghost use lib.ListN.{length};
+ghost use Rattle.lists.specs.Limits.{maxRuns, maxLogLabels};
 ghost use Rattle.record_bytes.specs.Form.{recordSize, u16At, runFrom, runsFrom, labelFrom, labelsFrom, placesFrom, recordFrom};
 use crate::LABEL_BYTES;
 use crate::LABEL_COUNT_AT;
 use crate::LABELS_AT;
-use crate::MAX_LABEL_LENGTH;
-use crate::MAX_LABELS;
-use crate::MAX_RUNS;
-use crate::PLACES;
 use crate::PLACES_AT;
 use crate::RUN_BYTES;
 use crate::RUN_COUNT_AT;
 use crate::RUNS_AT;
+use labels::LABEL_PLACES;
 use labels::Label;
 use labels::LabelNo;
 use labels::LabelTable;
+use labels::MAX_LABEL_BYTES;
+use lists::MAX_LOG_LABELS;
+use lists::MAX_RUNS;
 use trace::LineNo;
 use trace::Record;
 use trace::Run;
@@ -32,7 +33,7 @@ fn u16_at(bytes: &[u8], at: usize) -> u16
 
 // Run i.
 fn run_at(bytes: &[u8], i: usize) -> Run
-    requires { ⌜ (recordSize ≤ length (now bytes)) × (i < 128) ⌝ }
+    requires { ⌜ (recordSize ≤ length (now bytes)) × (i < maxRuns) ⌝ }
     ensures { λ r. ⌜ r ≡ runFrom (now (bytes .entry)) i ⌝ }
 {
     let at = RUNS_AT + RUN_BYTES * i;
@@ -49,12 +50,12 @@ fn run_at(bytes: &[u8], i: usize) -> Run
 }
 
 // The 128 runs.
-fn runs_from(bytes: &[u8]) -> [Run; 128]
+fn runs_from(bytes: &[u8]) -> [Run; MAX_RUNS]
     requires { ⌜ recordSize ≤ length (now bytes) ⌝ }
     ensures { λ l. ⌜ l ≡ runsFrom (now (bytes .entry)) ⌝ }
 {
     let first = run_at(bytes, 0);
-    let mut list = [first; 128];
+    let mut list = [first; MAX_RUNS];
     let mut i: usize = 0;
     while i < MAX_RUNS {
         let r = run_at(bytes, i);
@@ -66,13 +67,13 @@ fn runs_from(bytes: &[u8]) -> [Run; 128]
 
 // Label i, from 0.
 fn label_at(bytes: &[u8], i: usize) -> Label
-    requires { ⌜ (recordSize ≤ length (now bytes)) × (i < 64) ⌝ }
+    requires { ⌜ (recordSize ≤ length (now bytes)) × (i < maxLogLabels) ⌝ }
     ensures { λ x. ⌜ x ≡ labelFrom (now (bytes .entry)) i ⌝ }
 {
     let at = LABELS_AT + LABEL_BYTES * i;
-    let mut text = [0u8; 24];
+    let mut text = [0u8; MAX_LABEL_BYTES];
     let mut j: usize = 0;
-    while j < MAX_LABEL_LENGTH {
+    while j < MAX_LABEL_BYTES {
         text[j] = bytes[at + 1 + j];
         j += 1;
     }
@@ -83,14 +84,14 @@ fn label_at(bytes: &[u8], i: usize) -> Label
 }
 
 // The 64 labels.
-fn labels_from(bytes: &[u8]) -> [Label; 64]
+fn labels_from(bytes: &[u8]) -> [Label; MAX_LOG_LABELS]
     requires { ⌜ recordSize ≤ length (now bytes) ⌝ }
     ensures { λ l. ⌜ l ≡ labelsFrom (now (bytes .entry)) ⌝ }
 {
     let first = label_at(bytes, 0);
-    let mut list = [first; 64];
+    let mut list = [first; MAX_LOG_LABELS];
     let mut i: usize = 0;
-    while i < MAX_LABELS {
+    while i < MAX_LOG_LABELS {
         let x = label_at(bytes, i);
         list[i] = x;
         i += 1;
@@ -99,13 +100,13 @@ fn labels_from(bytes: &[u8]) -> [Label; 64]
 }
 
 // The 128 places.
-fn places_from(bytes: &[u8]) -> [LabelNo; 128]
+fn places_from(bytes: &[u8]) -> [LabelNo; LABEL_PLACES]
     requires { ⌜ recordSize ≤ length (now bytes) ⌝ }
     ensures { λ l. ⌜ l ≡ placesFrom (now (bytes .entry)) ⌝ }
 {
-    let mut list = [LabelNo(0); 128];
+    let mut list = [LabelNo(0); LABEL_PLACES];
     let mut i: usize = 0;
-    while i < PLACES {
+    while i < LABEL_PLACES {
         list[i] = LabelNo(bytes[PLACES_AT + i]);
         i += 1;
     }

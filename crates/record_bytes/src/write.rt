@@ -2,21 +2,22 @@
 ghost use mathlib.Core.Path.{_≡_};
 ghost use Prim.Native.Nat.{_+_, _*_, _<_, _≤_};
 ghost use lib.ListN.{length};
+ghost use Rattle.lists.specs.Limits.{maxRuns, maxLogLabels};
 ghost use Rattle.record_bytes.specs.Joined.{stored};
-ghost use Rattle.record_bytes.specs.Form.{runsAt, runSize, labelsAt, labelSize, placesAt, recordSize, u16Bytes, countByte, headBytes, runBytes, runsBytes, labelBytes, labelsBytes, placesBytes, recordBytes};
+ghost use Rattle.record_bytes.specs.Form.{runsAt, runSize, labelsAt, labelSize, placesAt, recordSize, u16Bytes, countByte, headBytes, runBytes, runsBytes, packedLabel, labelsBytes, placesBytes, recordBytes};
 use crate::LABEL_BYTES;
 use crate::LABEL_COUNT_AT;
 use crate::LABELS_AT;
-use crate::MAX_LABEL_LENGTH;
-use crate::MAX_LABELS;
-use crate::MAX_RUNS;
-use crate::PLACES;
 use crate::PLACES_AT;
 use crate::RUN_BYTES;
 use crate::RUN_COUNT_AT;
 use crate::RUNS_AT;
+use labels::LABEL_PLACES;
 use labels::Label;
 use labels::LabelNo;
+use labels::MAX_LABEL_BYTES;
+use lists::MAX_LOG_LABELS;
+use lists::MAX_RUNS;
 use trace::Record;
 use trace::Run;
 
@@ -31,7 +32,7 @@ fn put_u16(out: &mut [u8], at: usize, n: u16)
 
 // Run i.
 fn put_run(out: &mut [u8], i: usize, r: Run)
-    requires { ⌜ (recordSize ≤ length (now out)) × (i < 128) ⌝ }
+    requires { ⌜ (recordSize ≤ length (now out)) × (i < maxRuns) ⌝ }
     ensures { λ _. ⌜ now (out .exit) ≡ stored (now (out .entry)) (runsAt + runSize * i) (runBytes r) ⌝ }
 {
     let at = RUNS_AT + RUN_BYTES * i;
@@ -42,7 +43,7 @@ fn put_run(out: &mut [u8], i: usize, r: Run)
 }
 
 // The 128 runs.
-fn put_runs(out: &mut [u8], list: [Run; 128])
+fn put_runs(out: &mut [u8], list: [Run; MAX_RUNS])
     requires { ⌜ recordSize ≤ length (now out) ⌝ }
     ensures { λ _. ⌜ now (out .exit) ≡ stored (now (out .entry)) runsAt (runsBytes list) ⌝ }
 {
@@ -56,25 +57,25 @@ fn put_runs(out: &mut [u8], list: [Run; 128])
 
 // Label i, from 0.
 fn put_label(out: &mut [u8], i: usize, x: Label)
-    requires { ⌜ (recordSize ≤ length (now out)) × (i < 64) ⌝ }
-    ensures { λ _. ⌜ now (out .exit) ≡ stored (now (out .entry)) (labelsAt + labelSize * i) (labelBytes x) ⌝ }
+    requires { ⌜ (recordSize ≤ length (now out)) × (i < maxLogLabels) ⌝ }
+    ensures { λ _. ⌜ now (out .exit) ≡ stored (now (out .entry)) (labelsAt + labelSize * i) (packedLabel x) ⌝ }
 {
     let at = LABELS_AT + LABEL_BYTES * i;
     out[at] = x.length;
     let mut j: usize = 0;
-    while j < MAX_LABEL_LENGTH {
+    while j < MAX_LABEL_BYTES {
         out[at + 1 + j] = x.bytes[j];
         j += 1;
     }
 }
 
 // The 64 labels.
-fn put_labels(out: &mut [u8], list: [Label; 64])
+fn put_labels(out: &mut [u8], list: [Label; MAX_LOG_LABELS])
     requires { ⌜ recordSize ≤ length (now out) ⌝ }
     ensures { λ _. ⌜ now (out .exit) ≡ stored (now (out .entry)) labelsAt (labelsBytes list) ⌝ }
 {
     let mut i: usize = 0;
-    while i < MAX_LABELS {
+    while i < MAX_LOG_LABELS {
         let x = list[i];
         put_label(out, i, x);
         i += 1;
@@ -82,12 +83,12 @@ fn put_labels(out: &mut [u8], list: [Label; 64])
 }
 
 // The 128 places.
-fn put_places(out: &mut [u8], list: [LabelNo; 128])
+fn put_places(out: &mut [u8], list: [LabelNo; LABEL_PLACES])
     requires { ⌜ recordSize ≤ length (now out) ⌝ }
     ensures { λ _. ⌜ now (out .exit) ≡ stored (now (out .entry)) placesAt (placesBytes list) ⌝ }
 {
     let mut i: usize = 0;
-    while i < PLACES {
+    while i < LABEL_PLACES {
         out[PLACES_AT + i] = list[i].0;
         i += 1;
     }

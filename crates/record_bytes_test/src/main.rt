@@ -1,71 +1,63 @@
 // Packs records that lines leave, shows their bytes, and takes a line more on what unpacks from them.
 //
-// Bytes are shown with the place of the first, then the sum of all of a buffer. A line that is taken on a record is answered by H, F
-// or R and the refusal, and by the counts of lines, runs and labels of the record that is handed back.
-mod damage;
-mod full;
+// A case is a kind and a text (`test_cases`). The record stands packed in the first bytes of a buffer.
+//   b N      the buffer has N bytes, at most 2640, all 9
+//   z        packs the record that is started in the work area; Z also writes the outcome
+//   l LINE   takes a line on what unpacks, and packs what it leaves; L also writes the outcome
+//   n LINE   takes a line on what unpacks, and writes the answer: H, F or R and the refusal, and the counts of lines, runs and labels of
+//            the record that is handed back; the buffer keeps its bytes
+//   c N B    the same for the line `E 1000`, with byte N of the buffer changed to B, and changed back
+//   : N M    writes N, and the bytes from place N to before place M
+//   s        writes the sum of the buffer's bytes
+//   u        writes whether the buffer unpacks, and the same counts
+// `=` writes its text.
+mod calls;
 mod show;
-mod text;
 
-// The head, the runs and what is left of them.
-fn head(bytes: &[u8]) {
-    show::bytes(bytes, 0, 4);
-    show::bytes(bytes, 4, 11);
-    show::bytes(bytes, 11, 18);
-    show::bytes(bytes, 18, 25);
+use libc::STDIN_FILENO;
+
+// The cases that write what there is, and those that call.
+fn case(kind: u8, text: &[u8], bytes: &mut [u8], work: &mut [u8]) {
+    if kind == b'b' {
+        test_text::fill(bytes, 9);
+    } else {
+        show::case(kind, text, bytes);
+        calls::case(kind, text, bytes, work);
+    }
 }
 
-// The labels, their places, and the end of the record in a longer buffer.
-fn tail(bytes: &[u8]) {
-    show::bytes(bytes, 900, 909);
-    show::bytes(bytes, 925, 931);
-    show::bytes(bytes, 950, 952);
-    show::bytes(bytes, 2515, 2517);
-    show::bytes(bytes, 2601, 2603);
-    show::bytes(bytes, 2626, 2630);
+// The length of the buffer after a case.
+fn length(n: usize, kind: u8, text: &[u8]) -> usize {
+    if kind == b'b' {
+        return test_cases::size(text, 0);
+    }
+    n
 }
 
-// Three lines of a log whose ids have a high byte: 1000 is 3 * 256 + 232, and 65535 is 255 * 256 + 255.
-//
-// The sum of all: 7 in the head, 237 and 517 in the runs, 531 and 324 in the labels, 3 in the places, 12 times 9 past the record.
-fn three_lines(work: &mut [u8], bytes: &mut [u8]) {
-    text::write(b"three lines\n");
-    damage::prepared(work, bytes);
-    head(bytes);
-    tail(bytes);
-    show::sum(bytes);
+// A case on the first n bytes.
+fn case_in(kind: u8, text: &[u8], bytes: &mut [u8], n: usize, work: &mut [u8]) {
+    if n <= bytes.len() {
+        case(kind, text, &mut bytes[0..n], work);
+    }
 }
 
-// A buffer that is one byte short is refused and left as it is; so are bytes that are one short, and no bytes.
-fn short(work: &mut [u8]) {
-    text::write(b"short\n");
-    let mut small = [9u8; 2627];
-    let s = pairs::start_record(work);
-    let o = record_bytes::pack(s.state, &mut small);
-    show::outcome(o);
-    show::sum(&small);
-    show::unpacked(&small);
-    show::unpacked(b"");
-}
-
-// No lines: all bytes are 0, and the first line is taken on what unpacks from them.
-fn no_lines(work: &mut [u8]) {
-    text::write(b"no lines\n");
-    let mut all = [9u8; 2628];
-    let s = pairs::start_record(work);
-    let o = record_bytes::pack(s.state, &mut all);
-    show::outcome(o);
-    show::sum(&all);
-    show::unpacked(&all);
-    show::next(&all, work, b"B 5 TEST\n");
+fn run(input: &[u8], bytes: &mut [u8], work: &mut [u8]) {
+    let mut n: usize = 0;
+    let mut at: usize = 0;
+    while at < input.len() {
+        let c = test_cases::case_at(input, at);
+        let start = c.start;
+        let end = c.end;
+        n = length(n, c.kind, &input[start..end]);
+        case_in(c.kind, &input[start..end], bytes, n, work);
+        at = c.next;
+    }
 }
 
 fn main() {
-    let mut area = [7u8; 16384];
+    let mut input = io::large_buffer();
     let mut bytes = [9u8; 2640];
-    three_lines(&mut area, &mut bytes);
-    damage::all(area, bytes);
-    short(&mut area);
-    no_lines(&mut area);
-    full::all(&mut area, &mut bytes);
+    let mut work = [7u8; 16384];
+    let n = io::read_full(STDIN_FILENO, &mut input);
+    run(&input[..n], &mut bytes, &mut work);
 }

@@ -14,7 +14,7 @@ use Rattle.relations.specs.declared.Composed.the-variants.{Set, Refused}
 use Rattle.relations.specs.Relation.{Relation}
 use Rattle.relations.specs.Sets.{member?, any?}
 use Rattle.relations.specs.Runs.{FinishedRun}
-use Rattle.relations.specs.Compose.{Shown, ShownByThree, single, through?, composeOf, Demand3, Composition}
+use Rattle.relations.specs.Compose.{Shown, ShownByThree, single, through?, composeOf, CompositionLaw, Composition}
 use Rattle.relations.proofs.Tests.{any-one, any-of, two, joined}
 use Rattle.relations.proofs.Sets.{test-of, of-test, set-low, set-members, set-is, no-set}
 use Rattle.relations.proofs.Single.{single-member}
@@ -52,7 +52,7 @@ shown-through a b r t =
     let hq = two (member? q b) (member? r (single p q)) (g .1) in
     shown-by-three a b p q r (of-test p a (hp .0)) (of-test q b (hq .0)) (hq .1)
 
-pub demand-3 : Demand3
+pub demand-3 : CompositionLaw
 unfolding composeOf
 demand-3 a b _ _ r =
     record {

@@ -76,44 +76,44 @@ relates-tells during s f t g = rising-tells t s f g
 
 -- ── the positions of two runs ──
 module _ (s f t g : ℕ) where
-  abbrev Holds : Relation → Type 0
-  Holds r = Relates r s f t g
+  abbrev RelatesHere : Relation → Type 0
+  RelatesHere r = Relates r s f t g
 
-  holds-test : (r : Relation) → Holds r → relates? r s f t g ≡ true
+  holds-test : (r : Relation) → RelatesHere r → relates? r s f t g ≡ true
   holds-test r h = either-bool (relates? r s f t g) (λ e. e) (λ e. absurd (relates-tells r s f t g .no e h))
 
-  fails-test : (r : Relation) → (Holds r → ⊥) → relates? r s f t g ≡ false
+  fails-test : (r : Relation) → (RelatesHere r → ⊥) → relates? r s f t g ≡ false
   fails-test r n = either-bool (relates? r s f t g) (λ e. absurd (n (relates-tells r s f t g .yes e))) (λ e. e)
 
   -- the answer by what holds
-  pub says-before : Holds before → 1 ≡ relationOf s f t g
+  pub says-before : RelatesHere before → 1 ≡ relationOf s f t g
   unfolding relationOf
   says-before a = simp (lt-ltb f t a)
 
-  pub says-after : t ≤ f → Holds after → 2 ≡ relationOf s f t g
+  pub says-after : t ≤ f → RelatesHere after → 2 ≡ relationOf s f t g
   unfolding relationOf
   says-after a b = simp (le-ltb f t a, lt-ltb g s b)
 
-  pub says-overlaps : t ≤ f → s ≤ g → Holds overlaps → 4 ≡ relationOf s f t g
+  pub says-overlaps : t ≤ f → s ≤ g → RelatesHere overlaps → 4 ≡ relationOf s f t g
   unfolding relationOf
   says-overlaps a b c = simp (le-ltb f t a, le-ltb g s b, holds-test overlaps c)
 
-  pub says-overlapped : t ≤ f → s ≤ g → (Holds overlaps → ⊥) → Holds overlapped → 8 ≡ relationOf s f t g
+  pub says-overlapped : t ≤ f → s ≤ g → (RelatesHere overlaps → ⊥) → RelatesHere overlapped → 8 ≡ relationOf s f t g
   unfolding relationOf
   says-overlapped a b c d = simp (le-ltb f t a, le-ltb g s b, fails-test overlaps c, holds-test overlapped d)
 
-  pub says-includes : t ≤ f → s ≤ g → (Holds overlaps → ⊥) → (Holds overlapped → ⊥) → Holds includes → 16 ≡ relationOf s f t g
+  pub says-includes : t ≤ f → s ≤ g → (RelatesHere overlaps → ⊥) → (RelatesHere overlapped → ⊥) → RelatesHere includes → 16 ≡ relationOf s f t g
   unfolding relationOf
   says-includes a b c d e =
       simp (le-ltb f t a, le-ltb g s b, fails-test overlaps c, fails-test overlapped d, holds-test includes e)
 
-  pub says-during : t ≤ f → s ≤ g → (Holds overlaps → ⊥) → (Holds overlapped → ⊥) → (Holds includes → ⊥) → Holds during
+  pub says-during : t ≤ f → s ≤ g → (RelatesHere overlaps → ⊥) → (RelatesHere overlapped → ⊥) → (RelatesHere includes → ⊥) → RelatesHere during
       → 32 ≡ relationOf s f t g
   unfolding relationOf
   says-during a b c d e h =
       simp (le-ltb f t a, le-ltb g s b, fails-test overlaps c, fails-test overlapped d, fails-test includes e, holds-test during h)
 
-  pub says-none : t ≤ f → s ≤ g → (Holds overlaps → ⊥) → (Holds overlapped → ⊥) → (Holds includes → ⊥) → (Holds during → ⊥)
+  pub says-none : t ≤ f → s ≤ g → (RelatesHere overlaps → ⊥) → (RelatesHere overlapped → ⊥) → (RelatesHere includes → ⊥) → (RelatesHere during → ⊥)
       → 0 ≡ relationOf s f t g
   unfolding relationOf
   says-none a b c d e h =
@@ -121,12 +121,12 @@ module _ (s f t g : ℕ) where
 
   -- the relation that is answered holds, or none does and the answer is 0
   abbrev Named : ℕ → Type 0
-  Named n = (r : Relation) × (number r ≡ n) × Holds r
+  Named n = (r : Relation) × (number r ≡ n) × RelatesHere r
 
   abbrev NoneOf : ℕ → Type 0
-  NoneOf n = (n ≡ 0) × ((r : Relation) → Holds r → ⊥)
+  NoneOf n = (n ≡ 0) × ((r : Relation) → RelatesHere r → ⊥)
 
-  by-test : {C : Type 0} (r : Relation) → (Holds r → C) → ((Holds r → ⊥) → C) → C
+  by-test : {C : Type 0} (r : Relation) → (RelatesHere r → C) → ((RelatesHere r → ⊥) → C) → C
   by-test r p q =
       either-bool (relates? r s f t g) (λ e. p (relates-tells r s f t g .yes e)) (λ e. q (relates-tells r s f t g .no e))
 
@@ -141,13 +141,13 @@ module _ (s f t g : ℕ) where
       (λ c. by-test overlapped (λ d. inl (overlapped, says-overlapped p q c d, d))
       (λ d. by-test includes (λ e. inl (includes, says-includes p q c d e, e))
       (λ e. by-test during (λ h. inl (during, says-during p q c d e h, h))
-      (λ h. inr (sym (says-none p q c d e h), six-at (λ r. Holds r → ⊥) (a, b, c, d, e, h))))))))
+      (λ h. inr (sym (says-none p q c d e h), six-at (λ r. RelatesHere r → ⊥) (a, b, c, d, e, h))))))))
     where
       le-of : {m n : ℕ} → (m < n → ⊥) → n ≤ m
       le-of {m} {n} h = either-lt m n (λ l. absurd (h l)) (λ l. l)
 
   -- ── one of six ──
-  some-holds : s < f → t < g → Apart s f t g → ((r : Relation) → Holds r → ⊥) → ⊥
+  some-holds : s < f → t < g → Apart s f t g → ((r : Relation) → RelatesHere r → ⊥) → ⊥
   some-holds p q a n =
       either-lt f t (n before)
       (λ h. either-lt g s (n after)
@@ -155,7 +155,7 @@ module _ (s f t g : ℕ) where
       (λ l. either-lt f g (λ m. n overlaps (omega arith)) (λ m. n includes (omega arith)))
       (λ l. either-lt f g (λ m. n during (omega arith)) (λ m. n overlapped (omega arith)))))
 
-  only-six : (r : Relation) → s < f → t < g → Holds r → Six (λ q. Holds q → number q ≡ number r)
+  only-six : (r : Relation) → s < f → t < g → RelatesHere r → Six (λ q. RelatesHere q → number q ≡ number r)
   only-six before p q h = omega arith
   only-six after p q h = omega arith
   only-six overlaps p q h = omega arith
@@ -163,11 +163,11 @@ module _ (s f t g : ℕ) where
   only-six includes p q h = omega arith
   only-six during p q h = omega arith
 
-  pub only-holds : (r q : Relation) → s < f → t < g → Holds r → Holds q → q ≡ r
-  only-holds r q a b h k = number-one q r (six-at (λ v. Holds v → number v ≡ number r) (only-six r a b h) q k)
+  pub only-holds : (r q : Relation) → s < f → t < g → RelatesHere r → RelatesHere q → q ≡ r
+  only-holds r q a b h k = number-one q r (six-at (λ v. RelatesHere v → number v ≡ number r) (only-six r a b h) q k)
 
   -- a relation that holds is the one answered
-  pub relation-number : (r : Relation) → s < f → t < g → Holds r → number r ≡ relationOf s f t g
+  pub relation-number : (r : Relation) → s < f → t < g → RelatesHere r → number r ≡ relationOf s f t g
   relation-number r p q h =
       ⊎-elim (λ w. ap number (only-holds (w .0) r p q (w .2) h) ∙ w .1) (λ w. absurd (w .1 r h)) which
 

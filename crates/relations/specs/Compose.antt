@@ -96,19 +96,19 @@ composedOf a b = cond (leb a 63 && leb b 63) (Set (composeOf a b)) (Refused 14)
 -- ── demand 3 ──
 -- For the sets a and b and the relation r: r is in the composition exactly when some accepted log shows it, and wherever a log
 -- shows it, one with three runs and no others does.
-pub record Settled (a b : ℕ) (r : Relation) : Type 0 where
+pub record ExactlyShown (a b : ℕ) (r : Relation) : Type 0 where
   pub exactly : Member r (composeOf a b) ↔ ((log : List ℕ) × Shown log a b r)
   pub by-three : (log : List ℕ) → Shown log a b r → ShownByThree a b r
 
 -- over all pairs of sets, the empty set included, and all relations
-abbrev pub Demand3 : Type 0
-Demand3 = (a b : ℕ) → a < 64 → b < 64 → (r : Relation) → Settled a b r
+abbrev pub CompositionLaw : Type 0
+CompositionLaw = (a b : ℕ) → a < 64 → b < 64 → (r : Relation) → ExactlyShown a b r
 
 -- What the composing call answers for any two numbers, and demand 3.
 pub record Composition (a b : ℕ) (w : Composed) : Type 0 where
   pub answer : w ≡ composedOf a b
   pub is-set : (c : ℕ) → w ≡ Set c → c < 64
-  pub demand-3 : Demand3
+  pub demand-3 : CompositionLaw
 
 -- ── the worked cases ──
 -- "Compositions: P2 before, before: 1. P3 before, after: 63. P4 overlaps, overlaps: 5. P5 before, during: 37. P6 overlaps,

@@ -9,14 +9,12 @@ ghost use Rattle.trace.specs.Trace.{noRun};
 ghost use Rattle.relations.specs.Relation.{Rising, Compared};
 ghost use Rattle.relations.specs.Runs.{spanOf, Relating, Conversed};
 ghost use Rattle.relations.specs.Compose.{Composition};
+use lists::MAX_RUNS;
 use trace::Record;
 use trace::RunNo;
 use trace::RunTable;
 
 mod table;
-
-// The places of a record's run table.
-const MAX_RUNS: usize = 128;
 
 // The six relations by their numbers.
 const BEFORE: u8 = 1;

@@ -1,101 +1,53 @@
-// Compositions and converses.
-use super::text;
+// Positions, compositions and converses.
 use relations::Composed;
 
-// Ends a line with a set or a refusal.
-fn show_set(c: Composed) {
+// Writes a text and a number.
+pub fn answer(text: &[u8], n: u8) {
+    test_text::write(text);
+    test_text::write(b": ");
+    test_text::write_number(test_text::wide(n));
+    test_text::write(b"\n");
+}
+
+// Writes a text and a refusal.
+pub fn refusal(text: &[u8], code: u8) {
+    test_text::write(text);
+    test_text::write(b": ");
+    test_text::write_refusal(code);
+    test_text::write(b"\n");
+}
+
+fn show(text: &[u8], c: Composed) {
     match c {
-        Composed::Set(n) => {
-            text::write_answer(n);
-        }
-        Composed::Refused(code) => {
-            text::write_refusal(code);
-        }
+        Composed::Set(n) => answer(text, n),
+        Composed::Refused(code) => refusal(text, code),
     }
 }
 
-fn show_composed(a: u8, b: u8) {
-    test_text::write_next(a as u64);
-    test_text::write_number(b as u64);
-    show_set(relations::compose(a, b));
+fn between(text: &[u8]) -> u8 {
+    relations::relation_between(
+        test_cases::number(text, 0),
+        test_cases::number(text, 1),
+        test_cases::number(text, 2),
+        test_cases::number(text, 3),
+    )
 }
 
-fn show_converse(c: u8) {
-    test_text::write_number(c as u64);
-    show_set(relations::converse(c));
-}
-
-// The number of the relation at place i of the six.
-fn number_at(i: u8) -> u8 {
-    match i {
-        0 => 1,
-        1 => 2,
-        2 => 4,
-        3 => 8,
-        4 => 16,
-        _ => 32,
+// The cases of sets and positions.
+pub fn case(kind: u8, text: &[u8]) {
+    if kind == b'=' {
+        test_text::write_line(text);
     }
-}
-
-// The compositions of two relations, all 36.
-pub fn singles() {
-    test_text::write(b"single compositions\n");
-    let mut i: u8 = 0;
-    while i < 36 {
-        show_composed(number_at(i / 6), number_at(i % 6));
-        i += 1;
+    if kind == b'b' {
+        answer(text, between(text));
     }
-}
-
-// P2 to P8.
-pub fn worked() {
-    test_text::write(b"worked cases\n");
-    show_composed(1, 1);
-    show_composed(1, 2);
-    show_composed(4, 4);
-    show_composed(1, 32);
-    show_composed(4, 16);
-    show_composed(16, 32);
-    show_composed(0, 63);
-}
-
-// Sets of several relations, none and all among them.
-pub fn several() {
-    test_text::write(b"several\n");
-    show_composed(0, 0);
-    show_composed(63, 0);
-    show_composed(63, 63);
-    show_composed(5, 5);
-    show_composed(20, 16);
-    show_composed(16, 20);
-    show_composed(21, 21);
-    show_composed(42, 42);
-    show_composed(17, 20);
-    show_composed(48, 12);
-}
-
-// 63 is taken and 64 refused, on each side.
-pub fn refusals() {
-    test_text::write(b"refusals\n");
-    show_composed(63, 1);
-    show_composed(1, 63);
-    show_composed(64, 1);
-    show_composed(1, 64);
-    show_composed(64, 63);
-    show_composed(63, 64);
-    show_composed(64, 64);
-    show_composed(255, 0);
-    show_composed(0, 255);
-}
-
-// The converses of all 64 sets, and of numbers that are no sets.
-pub fn converses() {
-    test_text::write(b"converses\n");
-    let mut c: u8 = 0;
-    while c < 64 {
-        show_converse(c);
-        c += 1;
+    if kind == b'c' {
+        show(
+            text,
+            relations::compose(test_cases::byte(text, 0), test_cases::byte(text, 1)),
+        );
     }
-    show_converse(64);
-    show_converse(255);
+    if kind == b'v' {
+        show(text, relations::converse(test_cases::byte(text, 0)));
+    }
 }

@@ -19,13 +19,14 @@ use Rattle.rules.specs.Rules.{ruleOf}
 use Rattle.rules.proofs.Rules.{rule-taken}
 use Rattle.rules.proofs.Cut.{first-bytes-decide-rule}
 use Rattle.reading.specs.declared.Ending.{Ending}
-use Rattle.monitor.specs.Log.{logOf}
+use Rattle.whole_log.specs.Log.{logOf}
 use Rattle.tallies.specs.Tally.{tallyOf}
-use Rattle.monitor.specs.Repeated.{Result}
+use Rattle.whole_log.specs.Repeated.{Result}
 use Rattle.single.proofs.LineCall.{with-refused}
-use Rattle.monitor.proofs.Cut.{first-bytes-decide}
-use Rattle.report.specs.Text.{refusedText, reportText}
-use Rattle.report.specs.Writing.{recordText}
+use Rattle.whole_log.proofs.Cut.{first-bytes-decide}
+use Rattle.text_pieces.specs.Pieces.{refusedText}
+use Rattle.report.specs.Text.{reportText}
+use Rattle.report.specs.RecordText.{recordText}
 use Rattle.report.proofs.ReportCall.{Given, given}
 
 -- ── the log ──

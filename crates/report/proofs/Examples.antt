@@ -3,13 +3,13 @@ use Prim.Native.Nat.{ℕ}
 use mathlib.Core.Path.{_≡_, refl, _∙_}
 use mathlib.Core.List.{List}
 use Rattle.lists.specs.Lists.{bytes, pad}
-use Rattle.labels.specs.Label.{labelOf, sameLabel}
+use Rattle.labels.specs.Label.{labelOf, equalLabel?}
 use Rattle.labels.specs.Table.{indexOf, numberOf, withLabel}
 use Rattle.lines.specs.Line.{eventOf}
 use Rattle.lines.specs.Log.{linesOf}
 use Rattle.lines.specs.Render.{digits}
 use Rattle.trace.specs.Trace.{noTrace, step, applyTo, apply, beginRun, endRun, begin, end, endOf, close}
-use Rattle.rules.specs.Labels.{placeOf}
+use Rattle.rules.specs.Labels.{labelStart}
 use Rattle.rules.specs.Table.{tree, formulaAt}
 use Rattle.rules.specs.Rules.{ruleOf}
 use Rattle.rules.specs.Cases.{p1File, p1Rule}
@@ -17,9 +17,11 @@ use Rattle.rules.proofs.Worked.{p1-taken}
 use Rattle.logic.specs.Model.{eval}
 use Rattle.logic.specs.Verdict.{verdictOf}
 use Rattle.reading.specs.Reading.{byAnswer}
-use Rattle.tallies.specs.Tally.{tallyOf, finishedRuns}
+use Rattle.trace.specs.Orderly.{finishedRuns}
+use Rattle.tallies.specs.Tally.{tallyOf}
 use Rattle.single.proofs.LineCall.{with-taken}
-use Rattle.report.specs.Text.{decimal, refusedText, tallyText, textFrom, reportText}
+use Rattle.text_pieces.specs.Pieces.{decimal, refusedText}
+use Rattle.report.specs.Text.{tallyText, textFrom, reportText}
 
 -- with P1's rule
 by-rule : (log s : List ℕ) → textFrom p1File p1Rule noTrace 0 (linesOf log) ≡ s → reportText p1File log ≡ s
@@ -28,10 +30,10 @@ by-rule log s e = with-taken {A = List ℕ} (ruleOf p1File) p1Rule _ _ p1-taken 
 
 -- "Whole output"
 pub p1-output : reportText p1File (bytes "B 7 EVENING\nB 9 TEST\nE 9\nE 7\n") ≡ bytes "1 H\n2 H\n3 H\n4 F\nT 4 2 2 0 1\n"
-unfolding textFrom refusedText tallyText decimal digits tallyOf finishedRuns byAnswer verdictOf eval tree formulaAt placeOf step applyTo apply eventOf beginRun withLabel labelOf pad indexOf begin sameLabel numberOf endRun endOf end close
+unfolding textFrom refusedText tallyText decimal digits tallyOf finishedRuns byAnswer verdictOf eval tree formulaAt labelStart step applyTo apply eventOf beginRun withLabel labelOf pad indexOf begin equalLabel? numberOf endRun endOf end close
 p1-output = by-rule _ _ refl
 
 -- "(as `3 R15`)": "`B 1`, `E 1`, `B 1`: the third gives 15"
 pub refused-output : reportText p1File (bytes "B 1\nE 1\nB 1\n") ≡ bytes "1 H\n2 H\n3 R15\nT 2 1 1 0 0\n"
-unfolding textFrom refusedText tallyText decimal digits tallyOf finishedRuns byAnswer verdictOf eval tree formulaAt placeOf step applyTo apply eventOf beginRun withLabel labelOf pad indexOf begin sameLabel numberOf endRun endOf end close
+unfolding textFrom refusedText tallyText decimal digits tallyOf finishedRuns byAnswer verdictOf eval tree formulaAt labelStart step applyTo apply eventOf beginRun withLabel labelOf pad indexOf begin equalLabel? numberOf endRun endOf end close
 refused-output = by-rule _ _ refl

@@ -1,5 +1,3 @@
-pub mod Writing
-pub mod Decimal
 pub mod Pieces
 pub mod Record
 pub mod Printed

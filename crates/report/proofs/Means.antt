@@ -22,9 +22,10 @@ use Rattle.trace.proofs.Taken.{by-answer}
 use Rattle.single.proofs.LineMeans.{verdict-says}
 use Rattle.reading.proofs.Lines.{same-trace, after-line, no-line, lines-counted}
 use Rattle.tallies.proofs.Failing.{fails-taken, fails-none}
-use Rattle.report.specs.Text.{decimal, letter, lineText, refusedText, countText, tallyText, textFrom}
+use Rattle.text_pieces.specs.Pieces.{decimal, refusedText, countText}
+use Rattle.report.specs.Text.{letter, lineText, tallyText, textFrom}
 use Rattle.report.specs.Report.{TextMeans}
-use Rattle.report.proofs.Decimal.{decimal-free}
+use Rattle.text_pieces.proofs.Decimal.{decimal-free}
 use Rattle.report.proofs.Printed.{text-none, text-taken, text-refused}
 
 -- ── each piece is a line ──

@@ -18,14 +18,16 @@ use Rattle.logic.specs.declared.Verdict.{Verdict}
 use Rattle.logic.specs.declared.Verdict.the-variants.{Holds, Fails}
 use Rattle.logic.specs.Verdict.{verdictByte, verdictOf}
 use Rattle.reading.specs.Reading.{byAnswer}
-use Rattle.monitor.specs.Log.{linesFrom}
+use Rattle.whole_log.specs.Log.{linesFrom}
 use Rattle.tallies.specs.Tally.{tallyOf, failed}
-use Rattle.monitor.specs.Repeated.{Result}
+use Rattle.whole_log.specs.Repeated.{Result}
 use Rattle.trace.proofs.Taken.{by-answer}
-use Rattle.monitor.proofs.Lines.{from-none, from-taken, from-refused}
-use Rattle.monitor.proofs.Prefixes.{line-byte}
-use Rattle.report.specs.Text.{letter, letterLine, lineText, refusedText, tallyText, textFrom}
-use Rattle.report.specs.Writing.{byteLetter, byteFails, linesTo, failsTo, recordText, LineLow}
+use Rattle.whole_log.proofs.Lines.{from-none, from-taken, from-refused}
+use Rattle.whole_log.proofs.Prefixes.{line-byte}
+use Rattle.text_pieces.specs.Pieces.{letterLine, refusedText}
+use Rattle.report.specs.Text.{letter, lineText, tallyText, textFrom}
+use Rattle.text_pieces.specs.Writing.{byteLetter, LineLow}
+use Rattle.report.specs.RecordText.{byteFails, linesTo, failsTo, recordText}
 
 -- ── verdict bytes ──
 letter-byte : (v : Verdict) → byteLetter (verdictByte v) ≡ letter v

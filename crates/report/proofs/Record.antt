@@ -13,10 +13,11 @@ use Rattle.trace.specs.Record.{recordOf}
 use Rattle.reading.specs.declared.LogRead.{LogRead}
 use Rattle.tallies.specs.declared.Tally.{Tally}
 use Rattle.tallies.specs.Tally.{tallyOf, CountsRecord}
-use Rattle.tallies.proofs.Tallies.{finished-most}
+use Rattle.trace.proofs.Finished.{finished-few}
 use Rattle.report.specs.Text.{tallyText}
-use Rattle.report.specs.Writing.{Writes, WritesFew, endingText, unread?, linesTo, failsTo, recordText, Printable, OfTrace, PrintsRecord}
-use Rattle.report.proofs.Writing.{then, writes-same}
+use Rattle.text_pieces.specs.Writing.{Writes, WritesFew, endingText, unread?}
+use Rattle.report.specs.RecordText.{linesTo, failsTo, recordText, Printable, OfTrace, PrintsRecord}
+use Rattle.text_pieces.proofs.Writing.{then, writes-same}
 
 lines-of : (a : LogRead) (t : Trace) → a .state ≡ recordOf t → a .state .lines .0 ≡ t .lines
 unfolding recordOf
@@ -37,7 +38,7 @@ module _ (a : LogRead) (o : OfTrace a) where
   trace-low : (n : ℕ) → n ≤ 256 → Printable (tallyOf (o .trace) n)
   unfolding tallyOf
   trace-low n h =
-      let f = finished-most (o .trace .runs) in
+      let f = finished-few (o .trace .runs) in
       let b = o .bounded .runs in
       let l = o .bounded .lines in
       record { lines = omega arith; begun = omega arith; finished = omega arith; running = omega arith; failing = omega arith }

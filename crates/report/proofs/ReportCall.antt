@@ -18,12 +18,14 @@ use Rattle.rules.specs.declared.RuleRead.the-variants as RuleRead
 use Rattle.rules.specs.Rules.{ruleOf}
 use Rattle.rules.proofs.Rules.{reads-rule}
 use Rattle.reading.specs.declared.LogRead.{LogRead}
-use Rattle.monitor.specs.Log.{notRead, linesFrom, logOf, ChecksLog}
-use Rattle.monitor.specs.Repeated.{Result as Checked}
+use Rattle.whole_log.specs.Log.{notRead, linesFrom, logOf, ChecksLog}
+use Rattle.whole_log.specs.Repeated.{Result as Checked}
 use Rattle.single.proofs.LineCall.{with-refused, with-taken}
 use Rattle.report.specs.declared.Reported.the-variants.{Length, Refused}
-use Rattle.report.specs.Text.{refusedText, textFrom, reportText}
-use Rattle.report.specs.Writing.{put, linesTo, failsTo, recordText, LineLow, OfTrace, PrintsRecord}
+use Rattle.text_pieces.specs.Pieces.{refusedText}
+use Rattle.report.specs.Text.{textFrom, reportText}
+use Rattle.text_pieces.specs.Writing.{put, LineLow}
+use Rattle.report.specs.RecordText.{linesTo, failsTo, recordText, OfTrace, PrintsRecord}
 use Rattle.report.specs.Report.{Result, reportOf, TextMeans, Reports}
 use Rattle.report.proofs.Printed.{Printed, printed}
 use Rattle.report.proofs.Means.{text-means}

@@ -1,3 +1,5 @@
 pub mod Text
-pub mod Writing
+pub mod RecordText
 pub mod Report
+pub mod Calls
+pub mod Settled

@@ -5,6 +5,7 @@ use mathlib.Core.Bool.{cond, _||_}
 use mathlib.Core.List.{List, [], _∷_, _++_}
 use lib.Dec.{ltb}
 use lib.ListN.{length, getD, take, drop}
+use Rattle.lists.specs.Limits.{maxLines}
 use Rattle.lines.specs.Log.{linesOf}
 use Rattle.trace.specs.Trace.{Trace, next, refused, noTrace, steps, Accepted, step}
 use Rattle.pairs.specs.Grid.{workSize}
@@ -13,20 +14,25 @@ use Rattle.rules.specs.declared.RuleRead.the-variants as RuleRead
 use Rattle.rules.specs.Rules.{ruleOf, formulaOf}
 use Rattle.logic.specs.declared.Verdict.{Verdict}
 use Rattle.logic.specs.Verdict.{Says}
-use Rattle.monitor.specs.Log.{logOf}
+use Rattle.whole_log.specs.Log.{logOf}
 use Rattle.tallies.specs.Tally.{tallyOf, failingFrom, tallyAfter}
 use Rattle.report.specs.declared.Reported.{Reported}
 use Rattle.report.specs.declared.Reported.the-variants.{Length, Refused}
-use Rattle.report.specs.Text.{lineText, refusedText, tallyText, reportText}
+use Rattle.text_pieces.specs.Pieces.{refusedText}
+use Rattle.report.specs.Text.{lineText, tallyText, reportText}
 
 -- the answer, the work area, the verdict buffer and the text buffer
 abbrev pub Result : Type 0
 Result = Reported × List ℕ × List ℕ × List ℕ
 
+-- the bytes that a text buffer has at least
+abbrev pub reportSize : ℕ
+reportSize = 2048
+
 -- "20 a lent buffer shorter than stated": for any of the three, and then nothing is written
 unfoldable pub reportOf : List ℕ → List ℕ → List ℕ → List ℕ → List ℕ → Result
 reportOf file log w out text =
-    cond (ltb (length w) workSize || (ltb (length out) 256 || ltb (length text) 2048)) (Refused 20, w, out, text)
+    cond (ltb (length w) workSize || (ltb (length out) maxLines || ltb (length text) reportSize)) (Refused 20, w, out, text)
     (Length (length (reportText file log)), logOf file log w out .1, logOf file log w out .2, reportText file log ++ drop (length (reportText file log)) text)
 
 -- ── what the text says of the log ──
@@ -53,7 +59,7 @@ pub record TextMeans (file : List ℕ) (x : Rule) (log text : List ℕ) : Type 0
 pub record Reports (file log w out text : List ℕ) (a : Reported) (w′ out′ text′ : List ℕ) : Type 0 where
   pub answer : _≡_ {A = Result} (a, w′, out′, text′) (reportOf file log w out text)
   -- no report is longer than the shortest buffer that is taken
-  pub short : (n : ℕ) → a ≡ Length n → n ≤ 2048
+  pub short : (n : ℕ) → a ≡ Length n → n ≤ reportSize
   -- "A refused rule prints `0 R` and the number joined, and nothing else."
   pub unruled : (n c : ℕ) → a ≡ Length n → ruleOf file ≡ RuleRead.Refused c → take n text′ ≡ refusedText 0 c
   pub meaning : (n : ℕ) (x : Rule) → a ≡ Length n → ruleOf file ≡ RuleRead.Rule x → TextMeans file x log (take n text′)

@@ -1,10 +1,10 @@
 -- The printed text. "It prints for each accepted line its number, a space, and `H` or `F`; for a refused line its number, a space,
 -- `R` and the refusal joined (as `3 R15`), and no later line. Last comes `T` and the five tally counts, in the order above, a space
 -- before each. Numbers are decimal, and every line ends in LF. A refused rule prints `0 R` and the number joined, and nothing else."
+-- Numbers, the line of a letter or of a refusal, and a count stand in `text_pieces`.
 use Prim.Native.Nat.{ℕ, _+_}
 use mathlib.Core.List.{List, [], _∷_, _++_}
 use Rattle.lines.specs.Log.{linesOf}
-use Rattle.lines.specs.Render.{digits}
 use Rattle.trace.specs.Trace.{Trace, noTrace, step, next}
 use Rattle.rules.specs.declared.Rule.{Rule}
 use Rattle.rules.specs.Rules.{ruleOf, formulaOf}
@@ -12,34 +12,18 @@ use Rattle.logic.specs.declared.Verdict.{Verdict}
 use Rattle.logic.specs.declared.Verdict.the-variants.{Holds, Fails}
 use Rattle.logic.specs.Verdict.{verdictOf}
 use Rattle.tallies.specs.declared.Tally.{Tally}
+use Rattle.text_pieces.specs.Pieces.{letterLine, refusedText, countText}
 use Rattle.single.specs.Line.{withRule}
 use Rattle.reading.specs.Reading.{byAnswer}
 use Rattle.tallies.specs.Tally.{tallyOf, failed}
-
--- A number of at most three digits, without leading zeros: right for 0 to 999. Every number that is printed is at most 257, the
--- number of a line after 256 accepted ones.
-unfoldable pub decimal : ℕ → List ℕ
-decimal n = digits 3 n
 
 -- "`H` or `F`"
 abbrev pub letter : Verdict → ℕ
 letter Holds = 72
 letter Fails = 70
 
--- the line of a number with one letter
-abbrev pub letterLine : ℕ → ℕ → List ℕ
-letterLine n b = decimal n ++ (32 ∷ b ∷ 10 ∷ [])
-
 abbrev pub lineText : ℕ → Verdict → List ℕ
 lineText n v = letterLine n (letter v)
-
--- "its number, a space, `R` and the refusal joined"
-unfoldable pub refusedText : ℕ → ℕ → List ℕ
-refusedText n c = decimal n ++ (32 ∷ 82 ∷ decimal c ++ (10 ∷ []))
-
--- "a space before each"
-abbrev pub countText : ℕ → List ℕ
-countText n = 32 ∷ decimal n
 
 -- "`T` and the five tally counts, in the order above": lines, begun, finished, open, failing
 unfoldable pub tallyText : Tally → List ℕ

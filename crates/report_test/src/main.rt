@@ -16,50 +16,31 @@ struct Sizes {
     text: usize,
 }
 
-// 1 if two bytes are the same.
-fn same(a: u8, b: u8) -> u64 {
-    if a == b {
-        return 1;
-    }
-    0
-}
-
-// How many bytes are b.
-fn count(bytes: &[u8], b: u8) -> u64 {
-    let mut n: u64 = 0;
-    let mut i: usize = 0;
-    while i < bytes.len() {
-        n = std::num::wrapping_add_u64(n, same(bytes[i], b));
-        i += 1;
-    }
-    n
-}
-
 // Writes the report, its length, and how many dots follow it.
 fn front(text: &[u8], n: usize) {
     if n <= text.len() {
         test_text::write(&text[0..n]);
-        test_text::write(b"length ");
-        test_text::write_number(n as u64);
-        test_text::write(b", then ");
-        test_text::write_number(count(&text[n..], b'.'));
-        test_text::write(b" dots\n");
+        let numbers = [n as u64, test_text::count(&text[n..], b'.')];
+        test_text::write_filled(b"length %a, then %b dots\n", &numbers);
     }
+}
+
+// Writes a refusal, and how many bytes are left as they were.
+fn refused(n: u8, work: &[u8], verdicts: &[u8], text: &[u8]) {
+    let numbers = [
+        test_text::wide(n),
+        test_text::count(work, 7),
+        test_text::count(verdicts, 9),
+        test_text::count(text, b'.'),
+    ];
+    test_text::write_filled(b"refused %a, left %b %c %d\n", &numbers);
 }
 
 // Writes the answer.
 fn show(a: Reported, work: &[u8], verdicts: &[u8], text: &[u8]) {
     match a {
         Reported::Length(n) => front(text, n),
-        Reported::Refused(n) => {
-            test_text::write(b"refused ");
-            test_text::write_number(n as u64);
-            test_text::write(b", left ");
-            test_text::write_next(count(work, 7));
-            test_text::write_next(count(verdicts, 9));
-            test_text::write_number(count(text, b'.'));
-            test_text::write(b"\n");
-        }
+        Reported::Refused(n) => refused(n, work, verdicts, text),
     }
 }
 
@@ -131,8 +112,7 @@ fn longer(log: &mut [u8], n: usize, text: &[u8]) -> usize {
 fn after(s: Sizes, file: &mut [u8], log: &mut [u8], kind: u8, text: &[u8]) -> Sizes {
     let mut q = s;
     if kind == b'=' {
-        test_text::write(text);
-        test_text::write(b"\n");
+        test_text::write_line(text);
         return q;
     }
     if kind == b'r' {

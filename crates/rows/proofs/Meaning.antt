@@ -17,7 +17,8 @@ use Rattle.trace.specs.declared.Run.{Run}
 use Rattle.trace.specs.declared.RunTable.{RunTable}
 use Rattle.trace.specs.Trace.{Trace, noRun, runAt, beginLine, endLine, start, finish, Accepted}
 use Rattle.trace.specs.Record.{recordOf}
-use Rattle.trace.proofs.Accepted.{Orderly, accepted-orderly}
+use Rattle.trace.specs.Orderly.{Orderly}
+use Rattle.trace.proofs.Accepted.{accepted-orderly}
 use Rattle.trace.proofs.Bounds.{accepted-bounded}
 use Rattle.relations.specs.Relation as Relation
 use Rattle.rules.specs.Formula.{same, has, pair}
@@ -30,10 +31,10 @@ use Rattle.logic.proofs.Decides.{eval-decides}
 use Rattle.logic.proofs.LabelSays.{accepted-written, label-says, same-says}
 use Rattle.order.specs.declared.Order.{Order}
 use Rattle.order.specs.Order.{orderTo, finishOrder}
-use Rattle.order.specs.Marks.{Holds}
+use Rattle.order.specs.Marks.{OrderHeld}
 use Rattle.order.proofs.Counted.{order-few}
 use Rattle.order.proofs.Ranks.{ranked-finished}
-use Rattle.matrix.specs.Rows.{pairOf, RowsOf}
+use Rattle.row_table.specs.Rows.{pairOf, RowsOf}
 use Rattle.rows.specs.Values.{holds, pairValue, givenValue, listedValue, rowValue, Wanted, Filled}
 use Rattle.rows.specs.ByRank.{rankedTo, OrderFits, ByRank, RowsFilled}
 use Rattle.rows.specs.RankModel.{rankRun, rankModel}
@@ -50,7 +51,7 @@ record-run : (s : Trace) (k : ℕ) → getD (recordOf s .runs .list) k noRun ≡
 unfolding recordOf
 record-run s k = getD-pad noRun 128 (s .runs) k
 
-module _ (log : List ℕ) (s : Trace) (a : Accepted log s) (o : Order) (H : Holds (orderTo (s .runs)) (s .lines) o) where
+module _ (log : List ℕ) (s : Trace) (a : Accepted log s) (o : Order) (H : OrderHeld (orderTo (s .runs)) (s .lines) o) where
   orderly : Orderly s
   orderly = accepted-orderly log s a
 

@@ -11,7 +11,7 @@ use Rattle.pairs.specs.Pairs.{pairByte, workOf}
 use Rattle.pairs.proofs.Grid.{getD-gridIn}
 use Rattle.logic.proofs.PairSays.{before-byte, overlaps-byte, includes-byte}
 use Rattle.set_table.specs.Rows.{row}
-use Rattle.matrix.specs.Rows.{pairOf, RowsOf}
+use Rattle.row_table.specs.Rows.{pairOf, RowsOf}
 use Rattle.rows.specs.RankModel.{rankRun, rankModel}
 
 module _ (log : List ℕ) (t : Trace) (a : Accepted log t) (i j : ℕ) where

@@ -16,8 +16,8 @@ use Rattle.rules.specs.Labels.{labelBytes}
 use Rattle.logic.specs.Shown.{numberFor}
 use Rattle.order.specs.declared.Order.{Order}
 use Rattle.order.specs.Order.{orderTo}
-use Rattle.order.specs.Marks.{Holds}
-use Rattle.matrix.specs.Rows.{tableRows, RowsOf}
+use Rattle.order.specs.Marks.{OrderHeld}
+use Rattle.row_table.specs.Rows.{tableRows, RowsOf}
 use Rattle.rows.specs.Values.{Filled}
 use Rattle.rows.specs.RankModel.{rankModel}
 
@@ -48,5 +48,5 @@ pub record RowsFilled (t : RunTable) (o : Order) (wanted : List ℕ) (labels : �
   pub numbers : List ℕ
   pub by-rank : ByRank t o (o .count) starts finishes numbers
   pub filled : Filled starts finishes numbers wanted labels old new tableRows
-  pub meaning : (log file : List ℕ) (s : Trace) → Accepted log s → t ≡ recordOf s .runs → Holds (orderTo (s .runs)) (s .lines) o → labels ≡ labelCount file
+  pub meaning : (log file : List ℕ) (s : Trace) → Accepted log s → t ≡ recordOf s .runs → OrderHeld (orderTo (s .runs)) (s .lines) o → labels ≡ labelCount file
       → ((p : ℕ) → p < labelCount file → getD wanted p 0 ≡ numberFor (s .labels) (labelBytes file p)) → RowsOf new file (o .count) (rankModel s)

@@ -12,8 +12,8 @@ use Rattle.sets.specs.Sets.{mem}
 use Rattle.relations.specs.Relation.{rising?}
 use Rattle.logic.specs.Shown.{sameNumber}
 use Rattle.set_table.specs.Rows.{row}
-use Rattle.rank_tables.specs.Tables.{lineWords, labelWords, Earlier, Numbered, Fits}
-use Rattle.matrix.specs.Rows.{labelRow, labelRows}
+use Rattle.rank_tables.specs.Tables.{lineWords, labelWords, Earlier, Numbered, FitsBelow}
+use Rattle.row_table.specs.Rows.{labelRow, labelRows}
 
 -- "before: finish of a < start of b. overlaps: start a < start b < finish a < finish b. includes: start a < start b <
 -- finish b < finish a."; 0 before, 1 overlaps, 2 includes
@@ -75,9 +75,9 @@ module _ (start finish number : List ℕ) where
 
   -- "At most 128 runs and 64 labels, hence 256 lines"; a finished run starts before it finishes
   pub record Ranks : Type 0 where
-    pub starts : Fits start maxLines
-    pub finishes : Fits finish maxLines
-    pub numbers : Fits number maxLogLabels
+    pub starts : FitsBelow start maxLines
+    pub finishes : FitsBelow finish maxLines
+    pub numbers : FitsBelow number maxLogLabels
     pub forward : (i : ℕ) → i < maxRuns → 0 < getD finish i 0 → getD start i 0 < getD finish i 0
 
 -- the sets of ranks that start before each line, that finish before each line, and that have each label

@@ -4,7 +4,7 @@
 // that start before each line and those that finish before each line at hand, every row is a few operations on sets.
 ghost use Prim.Native.Nat.{_≤_};
 ghost use lib.ListN.{length};
-ghost use Rattle.matrix.specs.Rows.{tableWords};
+ghost use Rattle.row_table.specs.Rows.{tableWords};
 ghost use Rattle.rows.specs.Values.{Wanted, Ranks};
 ghost use Rattle.rows.specs.ByRank.{OrderFits, ByRank, RowsFilled};
 

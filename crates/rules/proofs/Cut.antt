@@ -15,7 +15,7 @@ use Rattle.lists.proofs.Cases.{either-lt, and-right}
 use Rattle.labels.specs.Label.{maxLabelBytes, labelLength?, labelForm?}
 use Rattle.rules.specs.Limits.{maxLabels, maxNodes}
 use Rattle.rules.specs.Parts.{byte, part, andThen, readMark, readVersion, labelCount, readLabelCount, readNodeCount, nothingFollows}
-use Rattle.rules.specs.Labels.{placeOf, bytesFrom, labelBytes, listed, readLabel, readLabels, LabelsOk}
+use Rattle.rules.specs.Labels.{labelStart, bytesFrom, labelBytes, listed, readLabel, readLabels, LabelsOk}
 use Rattle.rules.specs.Table.{nodeAt, fieldsOk, readNodes}
 use Rattle.rules.specs.Rules.{ruleOf}
 use Rattle.rules.specs.declared.Node.{Node}
@@ -59,13 +59,13 @@ module _ (a b : List ℕ) (first : 600 ≤ length a) (second : 600 ≤ length b)
   from-same : (p : ℕ) → p < 500 → byte b p ≤ maxLabelBytes → bytesFrom a p ≡ bytesFrom b p
   from-same p h k = ap (λ (n : ℕ). take n (drop (p + 1) a)) (same p (omega arith)) ∙ bytes-same (p + 1) (byte b p) (omega arith)
 
-  place-same : (n : ℕ) → n ≤ maxLabels → LabelsOk b n → placeOf a n ≡ placeOf b n
-  unfolding placeOf
+  place-same : (n : ℕ) → n ≤ maxLabels → LabelsOk b n → labelStart a n ≡ labelStart b n
+  unfolding labelStart
   place-same zero h o = refl
   place-same (suc n) h o =
       let before : LabelsOk b n = λ i k. o i (omega arith) in
       let low = place-low b n before in
-      ap (λ (p : ℕ). p + 1 + byte a p) (place-same n (omega arith) before) ∙ ap (λ (m : ℕ). placeOf b n + 1 + m) (same (placeOf b n) (omega arith))
+      ap (λ (p : ℕ). p + 1 + byte a p) (place-same n (omega arith) before) ∙ ap (λ (m : ℕ). labelStart b n + 1 + m) (same (labelStart b n) (omega arith))
 
   listed-same : (n : ℕ) → n ≤ maxLabels → LabelsOk b n → (l : List ℕ) → listed a n l ≡ listed b n l
   unfolding listed
@@ -73,7 +73,7 @@ module _ (a b : List ℕ) (first : 600 ≤ length a) (second : 600 ≤ length b)
   listed-same (suc n) h o l =
       let before : LabelsOk b n = λ i k. o i (omega arith) in
       let low = place-low b n before in
-      let label : labelBytes a n ≡ labelBytes b n = ap (bytesFrom a) (place-same n (omega arith) before) ∙ from-same (placeOf b n) (omega arith) (o n (omega arith) .high) in
+      let label : labelBytes a n ≡ labelBytes b n = ap (bytesFrom a) (place-same n (omega arith) before) ∙ from-same (labelStart b n) (omega arith) (o n (omega arith) .high) in
       ap₂ _||_ (listed-same n (omega arith) before l) (ap (λ (k : List ℕ). same? k l) label)
 
   label-same : (n p : ℕ) → n ≤ maxLabels → p < 500 → LabelsOk b n → readLabel a n p ≡ readLabel b n p

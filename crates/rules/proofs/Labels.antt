@@ -12,11 +12,11 @@ use borrow.Author.Tests.{eq-eqb, ne-eqb, le-leb, lt-leb, leb-true, not-true, not
 use Rattle.lists.specs.Lists.{same?}
 use Rattle.lists.proofs.Cases.{either-eq, no-both, and-left, and-right}
 use Rattle.lists.proofs.Lists.{same-refl}
-use Rattle.labels.specs.Label.{maxLabelBytes, labelLength?, labelForm?, label?, labelOf}
-use Rattle.labels.proofs.Form.{form-label}
+use Rattle.labels.specs.Label.{maxLabelBytes, labelLength?, labelForm?, labelOf}
+use Rattle.labels.proofs.Form.{label?, form-label}
 use Rattle.labels.specs.declared.Label.{Label}
 use Rattle.rules.specs.Parts.{byte, part, andThen}
-use Rattle.rules.specs.Labels.{placeOf, bytesFrom, labelBytes, listed, readLabel, readLabels, LabelOk, LabelsOk}
+use Rattle.rules.specs.Labels.{labelStart, bytesFrom, labelBytes, listed, readLabel, readLabels, LabelOk, LabelsOk}
 use Rattle.rules.specs.declared.Read.{Read}
 use Rattle.rules.specs.declared.Read.the-variants.{At, Refused}
 use Rattle.rules.proofs.Parts.{at-inj, part-short, part-bad, part-ok, part-read, then-stop, then-at, both-read}
@@ -53,48 +53,48 @@ bytes-length (x ∷ a) (y ∷ b) h = go (eqb x y) (bytes-length a b (λ e. h (ap
 
 -- ── places ──
 -- a label ends no later than a later one starts
-pub place-below : (file : List ℕ) (m n : ℕ) → m < n → placeOf file m + 1 + byte file (placeOf file m) ≤ placeOf file n
-unfolding placeOf
+pub place-below : (file : List ℕ) (m n : ℕ) → m < n → labelStart file m + 1 + byte file (labelStart file m) ≤ labelStart file n
+unfolding labelStart
 place-below file m zero h = absurd (omega arith)
 place-below file m (suc n) h =
     either-eq m n
-    (λ e. subst (λ (k : ℕ). placeOf file m + 1 + byte file (placeOf file m) ≤ placeOf file k + 1 + byte file (placeOf file k)) e (omega arith))
+    (λ e. subst (λ (k : ℕ). labelStart file m + 1 + byte file (labelStart file m) ≤ labelStart file k + 1 + byte file (labelStart file k)) e (omega arith))
     (λ d. let i = place-below file m n (omega arith) in omega arith)
 
-pub place-next : (file : List ℕ) (m p : ℕ) → p ≡ placeOf file m → p + 1 + byte file p ≡ placeOf file (m + 1)
-unfolding placeOf
+pub place-next : (file : List ℕ) (m p : ℕ) → p ≡ labelStart file m → p + 1 + byte file p ≡ labelStart file (m + 1)
+unfolding labelStart
 place-next file m p e = rw (e, add-one m) refl
 
-pub place-end : (file : List ℕ) (n i p : ℕ) → p ≡ placeOf file i → i ≤ n → n ≤ i → p ≡ placeOf file n
-place-end file n i p e h k = let q : i ≡ n = omega arith in e ∙ ap (placeOf file) q
+pub place-end : (file : List ℕ) (n i p : ℕ) → p ≡ labelStart file i → i ≤ n → n ≤ i → p ≡ labelStart file n
+place-end file n i p e h k = let q : i ≡ n = omega arith in e ∙ ap (labelStart file) q
 
-pub place-inside : (file : List ℕ) (m n p at : ℕ) → p ≡ placeOf file m → at ≡ placeOf file n → m < n → p + 1 + byte file p ≤ at
+pub place-inside : (file : List ℕ) (m n p at : ℕ) → p ≡ labelStart file m → at ≡ labelStart file n → m < n → p + 1 + byte file p ≤ at
 place-inside file m n p at e f h = rw (e, f) (place-below file m n h)
 
-pub place-high : (file : List ℕ) (n : ℕ) → 6 ≤ placeOf file n
-unfolding placeOf
+pub place-high : (file : List ℕ) (n : ℕ) → 6 ≤ labelStart file n
+unfolding labelStart
 place-high file zero = omega arith
 place-high file (suc n) = let i = place-high file n in omega arith
 
 -- each label takes at most 25 bytes
-pub place-low : (file : List ℕ) (n : ℕ) → LabelsOk file n → placeOf file n ≤ 6 + 25 * n
-unfolding placeOf
+pub place-low : (file : List ℕ) (n : ℕ) → LabelsOk file n → labelStart file n ≤ 6 + 25 * n
+unfolding labelStart
 place-low file zero o = omega arith
 place-low file (suc n) o =
     let i = place-low file n (λ j h. o j (omega arith)) in
     let k = o n (omega arith) .high in
     omega arith
 
-pub place-within : (file : List ℕ) (n : ℕ) → 6 ≤ length file → LabelsOk file n → placeOf file n ≤ length file
-unfolding placeOf
+pub place-within : (file : List ℕ) (n : ℕ) → 6 ≤ length file → LabelsOk file n → labelStart file n ≤ length file
+unfolding labelStart
 place-within file zero h o = h
 place-within file (suc n) h o = o n (omega arith) .room
 
 -- a label of a file that is taken stands in it, and is not too long
-pub label-room : (file : List ℕ) (n i p : ℕ) → LabelsOk file n → p ≡ placeOf file i → i < n → p + 1 + byte file p ≤ length file
+pub label-room : (file : List ℕ) (n i p : ℕ) → LabelsOk file n → p ≡ labelStart file i → i < n → p + 1 + byte file p ≤ length file
 label-room file n i p o e h = rw e (o i h .room)
 
-pub label-size : (file : List ℕ) (n i p : ℕ) → LabelsOk file n → p ≡ placeOf file i → i < n → byte file p ≤ maxLabelBytes
+pub label-size : (file : List ℕ) (n i p : ℕ) → LabelsOk file n → p ≡ labelStart file i → i < n → byte file p ≤ maxLabelBytes
 label-size file n i p o e h = rw e (o i h .high)
 
 -- the part of the file that the code hands on is the label
@@ -103,11 +103,11 @@ bytes-part file p =
     let e : p + 1 + byte file p - (p + 1) ≡ byte file p = omega arith in
     ap (λ (k : ℕ). take k (drop (p + 1) file)) e
 
-pub label-part : (file : List ℕ) (n p : ℕ) → p ≡ placeOf file n → take (p + 1 + byte file p - (p + 1)) (drop (p + 1) file) ≡ labelBytes file n
+pub label-part : (file : List ℕ) (n p : ℕ) → p ≡ labelStart file n → take (p + 1 + byte file p - (p + 1)) (drop (p + 1) file) ≡ labelBytes file n
 label-part file n p e = bytes-part file p ∙ ap (bytesFrom file) e
 
 -- the label that the code makes of that part
-module _ (file : List ℕ) (n p : ℕ) (o : LabelsOk file (n + 1)) (e : p ≡ placeOf file n) where
+module _ (file : List ℕ) (n p : ℕ) (o : LabelsOk file (n + 1)) (e : p ≡ labelStart file n) where
   pub label-short : length (take (p + 1 + byte file p - (p + 1)) (drop (p + 1) file)) ≤ maxLabelBytes
   label-short = let h = label-size file (n + 1) n p o e (omega arith) in simp length-take (omega arith)
 
@@ -119,7 +119,7 @@ module _ (file : List ℕ) (n p : ℕ) (o : LabelsOk file (n + 1)) (e : p ≡ pl
 abbrev pub alike : List ℕ → ℕ → ℕ → Bool
 alike file p at = same? (take (p + 1 + byte file p - (p + 1)) (drop (p + 1) file)) (take (at + 1 + byte file at - (at + 1)) (drop (at + 1) file))
 
-module _ (file : List ℕ) (m p at : ℕ) (d : Bool) (place : p ≡ placeOf file m) (says : d ≡ alike file p at) where
+module _ (file : List ℕ) (m p at : ℕ) (d : Bool) (place : p ≡ labelStart file m) (says : d ≡ alike file p at) where
   alike-says : d ≡ same? (labelBytes file m) (bytesFrom file at)
   alike-says = says ∙ (ap₂ same? (bytes-part file p) (bytes-part file at) ∙ ap (λ (q : ℕ). same? (bytesFrom file q) (bytesFrom file at)) place)
 
@@ -135,7 +135,7 @@ listed-found file (suc n) m l h e =
     (λ q. rw (subst (λ (k : ℕ). same? (labelBytes file k) l ≡ true) q e) (or-true (listed file n l)))
     (λ q. rw (listed-found file n m l (omega arith) e) refl)
 
-pub listed-stop : (file : List ℕ) (n m p at : ℕ) (d : Bool) → p ≡ placeOf file m → d ≡ alike file p at → m < n → d ≡ true → true ≡ listed file n (bytesFrom file at)
+pub listed-stop : (file : List ℕ) (n m p at : ℕ) (d : Bool) → p ≡ labelStart file m → d ≡ alike file p at → m < n → d ≡ true → true ≡ listed file n (bytesFrom file at)
 listed-stop file n m p at d e f h t = sym (listed-found file n m _ h (sym (alike-says file m p at d e f) ∙ t))
 
 pub listed-end : (file : List ℕ) (n m at : ℕ) → listed file m (bytesFrom file at) ≡ false → m ≤ n → n ≤ m → false ≡ listed file n (bytesFrom file at)
@@ -186,14 +186,14 @@ module _ (file : List ℕ) (n at : ℕ) (start : at ≤ length file) where
 pub ruleset label-cases = (label-none, label-empty, label-long, label-cut, label-letter, label-twice, label-ok)
 
 -- ── labels that are read ──
-pub place-first : (file : List ℕ) → 6 ≡ placeOf file 0
-unfolding placeOf
+pub place-first : (file : List ℕ) → 6 ≡ labelStart file 0
+unfolding labelStart
 place-first file = refl
 
-pub label-read : (file : List ℕ) (n q : ℕ) → readLabel file n (placeOf file n) ≡ At q → (q ≡ placeOf file (suc n)) × LabelOk file n
-unfolding readLabel placeOf
+pub label-read : (file : List ℕ) (n q : ℕ) → readLabel file n (labelStart file n) ≡ At q → (q ≡ labelStart file (suc n)) × LabelOk file n
+unfolding readLabel labelStart
 label-read file n q e =
-    let p : ℕ = placeOf file n in
+    let p : ℕ = labelStart file n in
     let size : Bool = labelLength? (byte file p) in
     let fit : Bool = labelForm? (bytesFrom file p) && not (listed file n (bytesFrom file p)) in
     let t = both-read (part file p 1 size 5) (λ q. part file q (byte file p) fit 5) q e in
@@ -209,7 +209,7 @@ label-read file n q e =
       },
     )
 
-pub labels-read : (file : List ℕ) (n q : ℕ) → readLabels file n ≡ At q → (q ≡ placeOf file n) × LabelsOk file n
+pub labels-read : (file : List ℕ) (n q : ℕ) → readLabels file n ≡ At q → (q ≡ labelStart file n) × LabelsOk file n
 unfolding readLabels
 labels-read file zero q e = (sym (at-inj 6 q e) ∙ place-first file, λ i h. absurd (omega arith))
 labels-read file (suc n) q e =
@@ -218,7 +218,7 @@ labels-read file (suc n) q e =
     let v = label-read file n q (subst (λ (p : ℕ). readLabel file n p ≡ At q) (w .0) (t .2)) in
     (v .0, λ i h. either-eq i n (λ g. subst (λ (k : ℕ). LabelOk file k) (sym g) (v .1)) (λ g. w .1 i (omega arith)))
 
-pub labels-place : (file : List ℕ) (n at : ℕ) → 6 ≤ length file → readLabels file n ≡ At at → (at ≡ placeOf file n) × (at ≤ length file)
+pub labels-place : (file : List ℕ) (n at : ℕ) → 6 ≤ length file → readLabels file n ≡ At at → (at ≡ labelStart file n) × (at ≤ length file)
 labels-place file n at h e =
     let w = labels-read file n at e in
     let k = place-within file n h (w .1) in
@@ -242,8 +242,8 @@ labels-end file n m at e h k = let q : n ≡ m = omega arith in sym (subst (λ (
 
 -- such a label has as many bytes as its length byte says, and the form of a label
 module _ (file : List ℕ) (n : ℕ) (o : LabelOk file n) where
-  pub label-length : length (labelBytes file n) ≡ byte file (placeOf file n)
-  label-length = length-take-le (byte file (placeOf file n)) (drop (placeOf file n + 1) file) (simp length-drop (omega (arith, o .room)))
+  pub label-length : length (labelBytes file n) ≡ byte file (labelStart file n)
+  label-length = length-take-le (byte file (labelStart file n)) (drop (labelStart file n + 1) file) (simp length-drop (omega (arith, o .room)))
 
   pub label-form : label? (labelBytes file n) ≡ true
   label-form = form-label (labelBytes file n) (o .form)

@@ -11,16 +11,16 @@ use Rattle.rules.specs.declared.Read.{Read}
 use Rattle.rules.specs.declared.Read.the-variants.{At, Refused}
 
 -- the place of label n, that of its length byte; behind the last label, the place after the labels
-unfoldable pub placeOf : List ℕ → ℕ → ℕ
-placeOf file zero = labelsAt
-placeOf file (suc n) = placeOf file n + 1 + byte file (placeOf file n)
+unfoldable pub labelStart : List ℕ → ℕ → ℕ
+labelStart file zero = labelsAt
+labelStart file (suc n) = labelStart file n + 1 + byte file (labelStart file n)
 
 -- the bytes of the label whose length byte is at p; those of label n
 abbrev pub bytesFrom : List ℕ → ℕ → List ℕ
 bytesFrom file p = take (byte file p) (drop (p + 1) file)
 
 abbrev pub labelBytes : List ℕ → ℕ → List ℕ
-labelBytes file n = bytesFrom file (placeOf file n)
+labelBytes file n = bytesFrom file (labelStart file n)
 
 -- one of the first n labels has the bytes l
 unfoldable pub listed : List ℕ → ℕ → List ℕ → Bool
@@ -40,9 +40,9 @@ readLabels file (suc n) = andThen Refused (readLabels file n) (λ p. readLabel f
 
 -- label n stands in the file, is a label, and is none of those before it
 pub record LabelOk (file : List ℕ) (n : ℕ) : Type 0 where
-  pub low : 1 ≤ byte file (placeOf file n)
-  pub high : byte file (placeOf file n) ≤ maxLabelBytes
-  pub room : placeOf file n + 1 + byte file (placeOf file n) ≤ length file
+  pub low : 1 ≤ byte file (labelStart file n)
+  pub high : byte file (labelStart file n) ≤ maxLabelBytes
+  pub room : labelStart file n + 1 + byte file (labelStart file n) ≤ length file
   pub form : labelForm? (labelBytes file n) ≡ true
   pub fresh : listed file n (labelBytes file n) ≡ false
 

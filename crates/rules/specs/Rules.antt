@@ -7,7 +7,7 @@ use lib.ListN.{length}
 use Rattle.rules.specs.Limits.{maxLabels, maxNodes, maxNested, maxFileBytes}
 use Rattle.rules.specs.Formula.{Formula, noScope, scoped, shallow}
 use Rattle.rules.specs.Parts.{byte, labelCount, andThen, readMark, readVersion, readLabelCount, readNodeCount, nothingFollows}
-use Rattle.rules.specs.Labels.{placeOf, readLabels, LabelsOk}
+use Rattle.rules.specs.Labels.{labelStart, readLabels, LabelsOk}
 use Rattle.rules.specs.Table.{readNodes, Good, formulaAt}
 use Rattle.rules.specs.Checks.{namedOnce, wholeTable}
 use Rattle.rules.specs.declared.Rule.{Rule}
@@ -40,7 +40,7 @@ pub record Taken (file : List ℕ) (x : Rule) : Type 0 where
   pub labels-few : x .labels ≤ maxLabels
   pub labels-ok : LabelsOk file (x .labels)
   -- the nodes: after the label list and their count, to the file's end, each with kind and fields in range
-  pub nodes-at : x .nodes ≡ placeOf file (x .labels) + 1
+  pub nodes-at : x .nodes ≡ labelStart file (x .labels) + 1
   pub nodes-some : 1 ≤ x .count
   pub nodes-few : x .count ≤ maxNodes
   pub nodes-end : x .nodes + 3 * x .count ≡ length file

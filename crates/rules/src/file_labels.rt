@@ -5,7 +5,7 @@ ghost use lib.ListN.{length};
 ghost use Rattle.lists.specs.Lists.{same?};
 ghost use Rattle.labels.specs.Label.{maxLabelBytes, labelOf};
 ghost use Rattle.rules.specs.Parts.{byte};
-ghost use Rattle.rules.specs.Labels.{placeOf, bytesFrom, labelBytes, listed, readLabel, readLabels, LabelsOk};
+ghost use Rattle.rules.specs.Labels.{labelStart, bytesFrom, labelBytes, listed, readLabel, readLabels, LabelsOk};
 use crate::LABELS_AT;
 use crate::Read;
 use labels::MAX_LABEL_BYTES;
@@ -29,7 +29,7 @@ fn same_bytes(a: &[u8], b: &[u8]) -> bool
 
 // Whether one of the first n labels is the label at a place, that of label n.
 fn is_listed(file: &[u8], n: usize, at: usize) -> bool
-    requires { ⌜ (at ≡ placeOf (now file) n) × (at + 1 + byte (now file) at ≤ length (now file)) ⌝ }
+    requires { ⌜ (at ≡ labelStart (now file) n) × (at + 1 + byte (now file) at ≤ length (now file)) ⌝ }
     ensures { λ r. ⌜ r ≡ listed (now (file .entry)) n (bytesFrom (now (file .entry)) at) ⌝ }
 {
     let from = at + 1;
@@ -50,7 +50,7 @@ fn is_listed(file: &[u8], n: usize, at: usize) -> bool
 
 // Label n, at its place.
 fn label(file: &[u8], n: usize, at: usize) -> Read
-    requires { ⌜ (at ≡ placeOf (now file) n) × (at ≤ length (now file)) ⌝ }
+    requires { ⌜ (at ≡ labelStart (now file) n) × (at ≤ length (now file)) ⌝ }
     ensures { λ r. ⌜ r ≡ readLabel (now (file .entry)) n at ⌝ }
 {
     if file.len() - at < 1 {
@@ -102,7 +102,7 @@ pub fn labels(file: &[u8], count: usize) -> Read
 // The place of label n: that of its length byte.
 pub fn label_place(file: &[u8], n: usize) -> usize
     requires { ⌜ LabelsOk (now file) n ⌝ }
-    ensures { λ p. ⌜ p ≡ placeOf (now (file .entry)) n ⌝ }
+    ensures { λ p. ⌜ p ≡ labelStart (now (file .entry)) n ⌝ }
 {
     let mut p: usize = LABELS_AT;
     let mut i = 0;

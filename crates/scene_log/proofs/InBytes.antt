@@ -5,7 +5,7 @@ use mathlib.Core.Path.{_≡_, refl, ap, sym, subst, _∙_}
 use mathlib.Core.List.{List, [], _++_}
 use native.Mathlib.Omega.{arith}
 use lib.ListN.{length, drop}
-use borrow.Author.Tests.{lt-ltb, le-ltb}
+use borrow.Author.Tests.{lt-ltb, le-ltb, ne-eqb}
 use Rattle.lists.proofs.Cases.{either-lt}
 use Rattle.trace.specs.declared.Record.{Record}
 use Rattle.trace.specs.Trace.{Trace, noTrace, runNo, Accepted}
@@ -24,24 +24,28 @@ use Rattle.relations.proofs.Runs.{not-finished, answers}
 use Rattle.logic.specs.declared.Verdict.{Verdict}
 use Rattle.logic.specs.declared.Verdict.the-variants as Verdict
 use Rattle.single.specs.declared.Outcome.{Outcome}
-use Rattle.single.specs.declared.Outcome.the-variants.{Holds, Fails, Refused}
 use Rattle.single.specs.declared.Checked.{Checked}
 use Rattle.reading.specs.Left.{Left}
+use Rattle.reading.specs.declared.Ending.{Ending}
+use Rattle.reading.specs.declared.Ending.the-variants as Ending
+use Rattle.reading.specs.declared.LogRead.{LogRead}
+use Rattle.tallies.specs.declared.Tally.{Tally}
+use Rattle.tallies.specs.declared.Tallied.{Tallied}
+use Rattle.tallies.specs.Tally.{ChecksTallied}
+use Rattle.whole_log.specs.Log.{logOf, ChecksLog}
 use Rattle.single.specs.Line.{judged, ChecksLine}
-use Rattle.monitor.proofs.Repeated.{left-by}
-use Rattle.record_bytes.specs.declared.Outcome.{Outcome as Packed}
+use Rattle.whole_log.proofs.Repeated.{left-by}
+use Rattle.record_bytes.specs.declared.PackOutcome.{PackOutcome as Packed}
 use Rattle.record_bytes.specs.declared.Unpacked.{Unpacked}
-use Rattle.record_bytes.specs.Form.{recordSize, recordBytes, recordFrom}
-use Rattle.record_bytes.specs.Calls.{unpackOf, packOf, Unpacks, Packs}
+use Rattle.record_bytes.specs.Form.{recordSize, recordFrom}
+use Rattle.record_bytes.specs.Calls.{unpackOf, Unpacks, Packs}
 use Rattle.record_bytes.proofs.Carried.{packed-and-unpacked}
-use Rattle.scene_log.specs.Numbers.{outcomeNumber, relationNumber}
-use Rattle.scene_log.specs.InBytes.{recordIn, startNumbered, StartsNumber, bytesAfter, lineNumbered, ChecksBytes, ChecksLineNumber, runByte, NumbersRuns, RelatesBytes, RelatesNumber}
+use Rattle.answer_numbers.specs.Numbers.{relationNumber}
+use Rattle.answer_numbers.specs.InBytes.{asByte, recordIn, bytesAfter, lineNumbered, tallyFrom, tallyIn, numbersAfter, talliedNumbered, bytesLeft, logKept}
+use Rattle.answer_numbers.proofs.Numbered.{packed, byte-above, byte-same}
+use Rattle.scene_log.specs.InBytes.{startNumbered, StartsNumber, ChecksBytes, ChecksLineNumber, ChecksTalliedBytes, ChecksTalliedNumber, KeepsLog, KeepsLogNumber, NumbersRuns, RelatesBytes, RelatesNumber}
 
 -- ── a buffer that is long enough ──
-packed : (r : Record) (b : List ℕ) (p : Packed) (b′ : List ℕ) → recordSize ≤ length b → Packs r b p b′ → b′ ≡ recordIn r b
-unfolding packOf
-packed r b p b′ h k = ap (λ (z : Packed × List ℕ). z .1) (k .answer) ∙ simp (le-ltb _ _ h)
-
 unpacked : (b : List ℕ) (u : Unpacked) → recordSize ≤ length b → Unpacks b u → u .state ≡ recordFrom b
 unfolding unpackOf
 unpacked b u h k = ap (λ (z : Unpacked). z .state) (k .answer) ∙ simp (le-ltb _ _ h)
@@ -59,7 +63,7 @@ left-in-bytes log t a r e b b′ w w′ p q =
 
 -- ── the start of a record ──
 module _ (b w : List ℕ) where
-  pub start-no-record : length b < recordSize → StartsNumber b w 20 b w
+  pub start-no-record : length b < recordSize → StartsNumber b w (20 * 65536) b w
   unfolding startNumbered
   start-no-record h = record { answer = simp (lt-ltb _ _ h); meaning = λ e. absurd (omega arith) }
 
@@ -83,14 +87,14 @@ module _ (b w : List ℕ) where
     unfolding startOf
     ready h = parts _ (workOf [] w) (simp (le-ltb _ _ h))
 
-    pub start-no-work : (n : ℕ) → s .outcome ≡ Start.Refused n → StartsNumber b w n b w′
+    pub start-no-work : (n : ℕ) → s .outcome ≡ Start.Refused n → StartsNumber b w (n * 65536) b w′
     unfolding startNumbered
     start-no-work n q =
         either-lt (length w) workSize
         (λ h.
         let k = short h in
         let m : n ≡ 20 = cc in
-        record { answer = simp (le-ltb _ _ long, lt-ltb _ _ h) (λ j. (m j, b, k .2 j)); meaning = λ z. absurd (omega arith) })
+        record { answer = simp (le-ltb _ _ long, lt-ltb _ _ h) (λ j. (m j * 65536, b, k .2 j)); meaning = λ z. absurd (omega arith) })
         (λ h. let k = ready h in absurd (let z : _≡_ {A = ℕ} 0 1 = cc in omega arith))
 
     pub start-both : s .outcome ≡ Start.Ready → (p : Packed) (b′ : List ℕ) → Packs (s .state) b p b′ → StartsNumber b w 0 b′ w′
@@ -107,20 +111,6 @@ module _ (b w : List ℕ) where
         })
 
 -- ── one line ──
-module _ (c : Checked) (b : List ℕ) where
-  numbered : (o : Outcome) → c .outcome ≡ o → _≡_ {A = ℕ × List ℕ} (outcomeNumber o, bytesAfter o (c .state) b) (lineNumbered c b)
-  numbered o e = sym (ap (λ (x : Outcome). (outcomeNumber x, bytesAfter x (c .state) b)) e)
-
-  pub kept-refused : (n : ℕ) → c .outcome ≡ Refused n → _≡_ {A = ℕ × List ℕ} (n * 65536, b) (lineNumbered c b)
-  kept-refused n e = numbered (Refused n) e
-
-  module _ (long : recordSize ≤ length b) (p : Packed) (b′ : List ℕ) (k : Packs (c .state) b p b′) where
-    pub kept-holds : c .outcome ≡ Holds → _≡_ {A = ℕ × List ℕ} (1, b′) (lineNumbered c b)
-    kept-holds e = ap (λ (x : List ℕ). (1, x)) (packed (c .state) b p b′ long k) ∙ numbered Holds e
-
-    pub kept-fails : c .outcome ≡ Fails → _≡_ {A = ℕ × List ℕ} (0, b′) (lineNumbered c b)
-    kept-fails e = ap (λ (x : List ℕ). (0, x)) (packed (c .state) b p b′ long k) ∙ numbered Fails e
-
 -- the bytes of a line that is taken hold its record
 taken-bytes : (o : Outcome) (v : Verdict) (r : Record) (b : List ℕ) → o ≡ judged v → bytesAfter o r b ≡ recordIn r b
 taken-bytes o Verdict.Holds r b e = ap (λ (x : Outcome). bytesAfter x r b) e
@@ -151,16 +141,91 @@ module _ (file b w line : List ℕ) where
       let same : ChecksLine file (recordFrom b) w line c w′ = subst (λ (r : Record). ChecksLine file r w line c w′) (unpacked b u h p) k in
       record { short = λ g. absurd (omega arith); long = λ _. checks-bytes c n b′ w′ same e }
 
+-- ── one line with a tally ──
+-- the numbers of a line that is taken are its tally
+taken-numbers : (o : Outcome) (v : Verdict) (y : Tally) (s : List ℕ) → o ≡ judged v → numbersAfter o y s ≡ tallyIn y s
+taken-numbers o Verdict.Holds y s e = ap (λ (x : Outcome). numbersAfter x y s) e
+taken-numbers o Verdict.Fails y s e = ap (λ (x : Outcome). numbersAfter x y s) e
+
+module _ (file b s w line : List ℕ) where
+  pub tallied-no-record : length b < recordSize → ChecksTalliedNumber file b s w line (20 * 65536) b s w
+  tallied-no-record h = record { short-record = λ _. refl; short-tally = λ _. refl; long = λ g _. absurd (omega arith) }
+
+  pub tallied-no-tally : length s < 5 → ChecksTalliedNumber file b s w line (20 * 65536) b s w
+  tallied-no-tally h = record { short-record = λ _. refl; short-tally = λ _. refl; long = λ _ g. absurd (omega arith) }
+
+  tallied-bytes : (c : Tallied) (n : ℕ) (b′ s′ w′ : List ℕ) → ChecksTallied file (recordFrom b) (tallyFrom s) w line c w′
+      → _≡_ {A = ℕ × List ℕ × List ℕ} (n, b′, s′) (talliedNumbered c b s) → ChecksTalliedBytes file b s w line n b′ s′ w′
+  tallied-bytes c n b′ s′ w′ k e =
+      record {
+        checked = c;
+        checks = k;
+        answer = e;
+        goes-on = λ x q log t l same v j.
+            let taken = k .meaning x q log t l same .single .taken v j in
+            let put : b′ ≡ recordIn (c .state) b = ap (λ (z : ℕ × List ℕ × List ℕ). z .1) e ∙ taken-bytes (c .outcome) v (c .state) b j in (
+              taken .trace,
+              left-in-bytes (log ++ line) (taken .trace) (taken .accepted) (c .state) (taken .state) b b′ w w′ put (taken .pairs),
+            );
+        counts-on = λ v j. ap tallyFrom (ap (λ (z : ℕ × List ℕ × List ℕ). z .2) e ∙ taken-numbers (c .outcome) v (c .tally) s j);
+      }
+
+  pub tallied-checked : recordSize ≤ length b → 5 ≤ length s → (u : Unpacked) → Unpacks b u → (y : Tally) → y ≡ tallyFrom s → (c : Tallied) (w′ : List ℕ)
+      → ChecksTallied file (u .state) y w line c w′ → (n : ℕ) (b′ s′ : List ℕ) → _≡_ {A = ℕ × List ℕ × List ℕ} (n, b′, s′) (talliedNumbered c b s)
+      → ChecksTalliedNumber file b s w line n b′ s′ w′
+  tallied-checked h g u p y q c w′ k n b′ s′ e =
+      let same : ChecksTallied file (recordFrom b) (tallyFrom s) w line c w′ =
+      subst (λ (z : Record × Tally). ChecksTallied file (z .0) (z .1) w line c w′) (λ i. (unpacked b u h p i, q i)) k in
+      record {
+        short-record = λ f. absurd (omega arith);
+        short-tally = λ f. absurd (omega arith);
+        long = λ _ _. tallied-bytes c n b′ s′ w′ same e;
+      }
+
+-- ── a whole log ──
+-- the bytes of a log that is read to its end, or to a line
+read-bytes : (a : LogRead) (b : List ℕ) → a .ending ≡ Ending.Read → bytesLeft (a .ending) (a .state) b ≡ recordIn (a .state) b
+read-bytes a b e = ap (λ (x : Ending). bytesLeft x (a .state) b) e
+
+stopped-bytes : (a : LogRead) (b : List ℕ) (c l : ℕ) → a .ending ≡ Ending.Refused c l → (l ≡ 0 → ⊥) → bytesLeft (a .ending) (a .state) b ≡ recordIn (a .state) b
+stopped-bytes a b c l e h = ap (λ (x : Ending). bytesLeft x (a .state) b) e ∙ simp (ne-eqb _ _ h)
+
+module _ (file log b w out : List ℕ) where
+  pub log-no-record : length b < recordSize → KeepsLogNumber file log b w out (20 * 65536) b w out
+  log-no-record h = record { short = λ _. refl; long = λ g. absurd (omega arith) }
+
+  keeps : (n : ℕ) (b′ w′ out′ : List ℕ) → ChecksLog file log w out (logOf file log w out .0) w′ out′
+      → _≡_ {A = ℕ × List ℕ} (n, b′) (logKept (logOf file log w out .0) b) → KeepsLog file log b w out n b′ w′ out′
+  keeps n b′ w′ out′ k e =
+      let a = logOf file log w out .0 in
+      let put : b′ ≡ bytesLeft (a .ending) (a .state) b = ap (λ (z : ℕ × List ℕ). z .1) e in
+      record {
+        answer = λ i. (e i .0, e i .1, k .answer i .1, k .answer i .2);
+        meaning = k;
+        whole = λ x q long room j.
+            let taken = k .meaning x q long room .whole j in (
+              taken .trace,
+              left-in-bytes log (taken .trace) (taken .accepted) (a .state) (taken .state) b b′ w w′ (put ∙ read-bytes a b j) (taken .pairs),
+            );
+        stops = λ x q long room c l j.
+            let taken = k .meaning x q long room .stops c l j in (
+              taken,
+              left-in-bytes (taken .first .before) (taken .first .trace) (taken .first .accepted) (a .state) (taken .state) b b′ w w′
+                  (put ∙ stopped-bytes a b c l j (λ z. omega (arith, taken .first .number))) (taken .pairs),
+            );
+      }
+
+  pub log-kept : recordSize ≤ length b → (a : LogRead) (w′ out′ : List ℕ) → ChecksLog file log w out a w′ out′
+      → (n : ℕ) (b′ : List ℕ) → _≡_ {A = ℕ × List ℕ} (n, b′) (logKept a b) → KeepsLogNumber file log b w out n b′ w′ out′
+  log-kept h a w′ out′ k n b′ e =
+      let same : a ≡ logOf file log w out .0 = ap (λ (z : LogRead × List ℕ × List ℕ). z .0) (k .answer) in
+      record {
+        short = λ g. absurd (omega arith);
+        long = λ _.
+            keeps n b′ w′ out′ (subst (λ (z : LogRead). ChecksLog file log w out z w′ out′) same k) (e ∙ ap (λ (z : LogRead). logKept z b) same);
+      }
+
 -- ── two runs ──
-pub byte-above : (a : ℕ) → 255 < a → 255 ≡ runByte a
-byte-above a h = simp (lt-ltb _ _ h)
-
-pub byte-same : (a : ℕ) → a ≤ 255 → a ≡ runByte a
-byte-same a h = simp (le-ltb _ _ h)
-
-pub refused-relation : (w : Related) (n : ℕ) → w ≡ Related.Refused n → 256 + n ≡ relationNumber w
-refused-relation w n e = sym (ap relationNumber e)
-
 -- no run has a number above 127, so the numbers above 255 are as good as 255
 module _ (t : Trace) (few : length (t .runs) ≤ 128) (x y : ℕ) where
   first-is-none : (a b : ℕ) → 128 ≤ a → Related.Refused 22 ≡ relateIn t a b
@@ -169,19 +234,19 @@ module _ (t : Trace) (few : length (t .runs) ≤ 128) (x y : ℕ) where
   second-is-none : (a b : ℕ) → 128 ≤ b → Related.Refused 22 ≡ relateIn t a b
   second-is-none a b h = not-finished t a b (λ f. omega (arith, f .1 .begun))
 
-  runs-as-bytes : relateIn t (runByte x) (runByte y) ≡ relateIn t x y
+  runs-as-bytes : relateIn t (asByte x) (asByte y) ≡ relateIn t x y
   runs-as-bytes =
       either-lt 255 x
-      (λ h. sym (first-is-none (runByte x) (runByte y) (omega (arith, byte-above x h))) ∙ first-is-none x y (omega arith))
+      (λ h. sym (first-is-none (asByte x) (asByte y) (omega (arith, byte-above x h))) ∙ first-is-none x y (omega arith))
       (λ h. either-lt 255 y
-      (λ g. sym (second-is-none (runByte x) (runByte y) (omega (arith, byte-above y g))) ∙ second-is-none x y (omega arith))
+      (λ g. sym (second-is-none (asByte x) (asByte y) (omega (arith, byte-above y g))) ∙ second-is-none x y (omega arith))
       (λ g. sym (λ i. relateIn t (byte-same x h i) (byte-same y g i))))
 
 module _ (b : List ℕ) (x y : ℕ) where
-  pub relate-no-record : length b < recordSize → RelatesNumber b x y (256 + 20)
+  pub relate-no-record : length b < recordSize → RelatesNumber b x y (20 * 65536)
   relate-no-record h = record { short = λ _. refl; long = λ g. absurd (omega arith) }
 
-  numbers-runs : (log : List ℕ) (t : Trace) → Accepted log t → (w : Related) → w ≡ relateIn t (runByte x) (runByte y)
+  numbers-runs : (log : List ℕ) (t : Trace) → Accepted log t → (w : Related) → w ≡ relateIn t (asByte x) (asByte y)
       → (n : ℕ) → n ≡ relationNumber w → NumbersRuns t x y n
   numbers-runs log t a w e n q =
       record {
@@ -189,7 +254,7 @@ module _ (b : List ℕ) (x y : ℕ) where
         meaning = answers log t a x y (relateIn t x y) refl;
       }
 
-  relates-bytes : (w : Related) → Relating (recordFrom b) (runNo (runByte x)) (runNo (runByte y)) w → (n : ℕ) → n ≡ relationNumber w → RelatesBytes b x y n
+  relates-bytes : (w : Related) → Relating (recordFrom b) (runNo (asByte x)) (runNo (asByte y)) w → (n : ℕ) → n ≡ relationNumber w → RelatesBytes b x y n
   relates-bytes w k n q =
       record {
         decided = k .decided;
@@ -197,13 +262,13 @@ module _ (b : List ℕ) (x y : ℕ) where
         unknown = λ v. q ∙ ap relationNumber (k .unknown v);
       }
 
-  pub relate-known : recordSize ≤ length b → (u : Unpacked) → Unpacks b u → (x′ : ℕ) → x′ ≡ runByte x → (y′ : ℕ) → y′ ≡ runByte y
+  pub relate-known : recordSize ≤ length b → (u : Unpacked) → Unpacks b u → (x′ : ℕ) → x′ ≡ asByte x → (y′ : ℕ) → y′ ≡ asByte y
       → (w : Related) → Relating (u .state) (runNo x′) (runNo y′) w → (n : ℕ) → n ≡ relationNumber w → RelatesNumber b x y n
   relate-known h u p x′ ex y′ ey w k n q =
-      let same : Relating (recordFrom b) (runNo (runByte x)) (runNo (runByte y)) w =
+      let same : Relating (recordFrom b) (runNo (asByte x)) (runNo (asByte y)) w =
       subst (λ (z : Record × ℕ × ℕ). Relating (z .0) (runNo (z .1)) (runNo (z .2)) w) (λ i. (unpacked b u h p i, ex i, ey i)) k in
       record { short = λ g. absurd (omega arith); long = λ _. relates-bytes w same n q }
 
 pub ruleset starts = (start-no-record, start-no-work, start-both)
 
-pub ruleset kept = (kept-refused, kept-holds, kept-fails)
+pub ruleset with-tally = (tallied-no-record, tallied-no-tally, tallied-checked)

@@ -1,66 +1,60 @@
--- Each answer as a number: of a set, of a refusal, of a whole log.
-use Prim.Native.Nat.{ℕ, _+_, _*_, _<_, _≤_}
+-- The calls that answer a number: sets of relations, a whole log, a report.
+use Prim.Native.Nat.{ℕ, _<_}
 use mathlib.Core.Path.{_≡_, ap, sym, subst, _∙_}
-use mathlib.Core.List.{List, [], _∷_, _++_}
-use lib.ListN.{length, length-append}
+use mathlib.Core.List.{List}
 use native.Mathlib.Omega.{arith}
-use Rattle.lines.specs.Log.{linesOf}
-use Rattle.trace.specs.Trace.{Trace, Answer, next, refused, noTrace, step}
-use Rattle.rules.specs.declared.Rule.{Rule}
-use Rattle.rules.specs.declared.RuleRead.{RuleRead}
-use Rattle.rules.specs.declared.RuleRead.the-variants as RuleRead
-use Rattle.rules.specs.Rules.{ruleOf, formulaOf}
-use Rattle.logic.specs.declared.Verdict.{Verdict}
-use Rattle.logic.specs.Verdict.{verdictOf}
+use Rattle.lists.proofs.Cases.{either-lt}
 use Rattle.relations.specs.declared.Composed.{Composed}
-use Rattle.relations.specs.declared.Composed.the-variants as Composed
 use Rattle.relations.specs.Runs.{Conversed}
-use Rattle.relations.specs.Compose.{Composition}
+use Rattle.relations.specs.Compose.{composedOf, Composition}
 use Rattle.relations.proofs.Sets.{not-conversed}
 use Rattle.relations.proofs.Demand.{demand-3, first-no-set, second-no-set}
-use Rattle.reading.specs.declared.Ending.the-variants.{Read, Refused}
 use Rattle.reading.specs.declared.LogRead.{LogRead}
-use Rattle.tallies.specs.declared.Tally.{Tally}
-use Rattle.single.specs.Line.{withRule}
-use Rattle.reading.specs.Reading.{byAnswer}
-use Rattle.monitor.specs.Log.{ChecksLog}
-use Rattle.tallies.specs.Tally.{tallyOf, failed}
+use Rattle.whole_log.specs.Log.{ChecksLog}
 use Rattle.report.specs.declared.Reported.{Reported}
-use Rattle.report.specs.declared.Reported.the-variants as Reported
-use Rattle.report.specs.Text.{lineText, refusedText, tallyText, textFrom, reportText}
 use Rattle.report.specs.Report.{Result, Reports}
-use Rattle.scene_log.specs.Numbers.{setNumber, logNumber, endingNumber, logNumbered, reportNumber, reportNumbered, ComposesNumbers, ConversesNumber, ChecksLogNumber, ReportsNumber}
-use Rattle.trace.proofs.Taken.{by-answer}
+use Rattle.answer_numbers.specs.Numbers.{setNumber, logNumber, reportNumber}
+use Rattle.answer_numbers.specs.InBytes.{asByte}
+use Rattle.answer_numbers.proofs.Numbered.{byte-above, byte-same}
+use Rattle.scene_log.specs.Numbers.{logNumbered, reportNumbered, ComposesNumbers, ConversesNumber, ChecksLogNumber, ReportsNumber}
 
 -- ── sets of relations ──
-pub refused-set : (c : Composed) (n : ℕ) → c ≡ Composed.Refused n → 256 + n ≡ setNumber c
-refused-set c n e = sym (ap setNumber e)
+-- a number above 63 is no set, and neither is its byte
+above-63 : (a : ℕ) → 63 < a → 63 < asByte a
+above-63 a h = either-lt 255 a (λ g. omega (arith, byte-above a g)) (λ g. omega (arith, byte-same a g))
 
-pub composes : (a b n : ℕ) (w : Composed) → Composition a b w → n ≡ setNumber w → ComposesNumbers a b n
-composes a b n w c e = record { answer = e ∙ ap setNumber (c .answer); demand-3 = demand-3 }
+sets-as-bytes : (a b : ℕ) → composedOf (asByte a) (asByte b) ≡ composedOf a b
+sets-as-bytes a b =
+    either-lt 63 a
+    (λ h. sym (first-no-set (asByte a) (asByte b) (above-63 a h) .answer) ∙ first-no-set a b h .answer)
+    (λ h.
+    let same : a ≡ asByte a = byte-same a (omega arith) in
+    either-lt 63 b
+    (λ g. sym (second-no-set (asByte a) (asByte b) (omega arith) (above-63 b g) .answer) ∙ second-no-set a b h g .answer)
+    (λ g. sym (λ i. composedOf (same i) (byte-same b (omega arith) i))))
 
-pub first-above : (a b : ℕ) → 63 < a → ComposesNumbers a b 270
-first-above a b h = record { answer = ap setNumber (first-no-set a b h .answer); demand-3 = demand-3 }
+pub composes : (a b a′ : ℕ) → a′ ≡ asByte a → (b′ : ℕ) → b′ ≡ asByte b → (w : Composed) → Composition a′ b′ w → (n : ℕ) → n ≡ setNumber w → ComposesNumbers a b n
+composes a b a′ p b′ q w c n e =
+    let bytes : composedOf a′ b′ ≡ composedOf a b = (λ i. composedOf (p i) (q i)) ∙ sets-as-bytes a b in
+    record {
+      answer = e ∙ ap setNumber (c .answer ∙ bytes);
+      is-set = λ d z. c .is-set d (c .answer ∙ (bytes ∙ z));
+      demand-3 = demand-3;
+    }
 
-pub second-above : (a b : ℕ) → a ≤ 63 → 63 < b → ComposesNumbers a b 270
-second-above a b g h = record { answer = ap setNumber (second-no-set a b g h .answer); demand-3 = demand-3 }
-
-pub converses : (a n : ℕ) (w : Composed) → Conversed a w → n ≡ setNumber w → ConversesNumber a n
-converses a n w c e =
-    record { answer = e ∙ ap setNumber (c .answer); meaning = subst (Conversed a) (c .answer) c }
-
-pub above : (a : ℕ) → 63 < a → ConversesNumber a 270
-above a h =
-    let c = not-conversed a h in
-    record { answer = ap setNumber (c .answer); meaning = subst (Conversed a) (c .answer) c }
+pub converses : (a a′ : ℕ) → a′ ≡ asByte a → (w : Composed) → Conversed a′ w → (n : ℕ) → n ≡ setNumber w → ConversesNumber a n
+converses a a′ q w c n e =
+    either-lt 63 a
+    (λ h.
+    let k = not-conversed a h in
+    let none = not-conversed a′ (subst (λ (z : ℕ). 63 < z) (sym q) (above-63 a h)) in
+    record { answer = e ∙ ap setNumber (c .answer ∙ (sym (none .answer) ∙ k .answer)); meaning = subst (Conversed a) (k .answer) k })
+    (λ h.
+    let same : a′ ≡ a = q ∙ sym (byte-same a (omega arith)) in
+    let m : Conversed a w = subst (λ (z : ℕ). Conversed z w) same c in
+    record { answer = e ∙ ap setNumber (m .answer); meaning = subst (Conversed a) (m .answer) m })
 
 -- ── a whole log ──
-pub read-whole : (a : LogRead) → a .ending ≡ Read → a .state .lines .0 ≡ logNumber a
-read-whole a e = let k : endingNumber (a .ending) ≡ 0 = ap endingNumber e in omega arith
-
-pub refused-at : (a : LogRead) (n l : ℕ) → a .ending ≡ Refused n l → n * 65536 + a .state .lines .0 ≡ logNumber a
-refused-at a n l e = let k : endingNumber (a .ending) ≡ n = ap endingNumber e in omega arith
-
 pub checks : (file log w out : List ℕ) (a : LogRead) (n : ℕ) (w′ out′ : List ℕ)
     → ChecksLog file log w out a w′ out′ → n ≡ logNumber a → ChecksLogNumber file log w out n w′ out′
 checks file log w out a n w′ out′ c e =
@@ -70,50 +64,10 @@ checks file log w out a n w′ out′ c e =
     }
 
 -- ── a report ──
-after-line : (s t : List ℕ) → 0 < length s → 0 < length (s ++ t)
-after-line s t h = simp length-append (omega arith)
-
-refused-line : (n c : ℕ) → 0 < length (refusedText n c)
-unfolding refusedText
-refused-line n c = simp length-append (omega arith)
-
-verdict-line : (n : ℕ) (v : Verdict) → 0 < length (lineText n v)
-verdict-line n v = simp length-append (omega arith)
-
-tally-line : (y : Tally) → 0 < length (tallyText y)
-unfolding tallyText
-tally-line y = omega arith
-
-lines-text : (file : List ℕ) (x : Rule) (t : Trace) (n : ℕ) (ls : List (List ℕ)) → 0 < length (textFrom file x t n ls)
-unfolding textFrom byAnswer
-lines-text file x t n [] = tally-line (tallyOf t n)
-lines-text file x t n (l ∷ ls) = by-answer (step (next t) l)
-  where
-    by-answer : (a : Answer) → 0 < length (byAnswer a
-        (λ u. lineText (u .lines) (verdictOf u (formulaOf file x)) ++ textFrom file x u (n + failed (verdictOf u (formulaOf file x))) ls)
-        (λ c. refusedText (t .lines + 1) c ++ tallyText (tallyOf t n)))
-    by-answer (next u) = after-line (lineText (u .lines) (verdictOf u (formulaOf file x))) _ (verdict-line (u .lines) (verdictOf u (formulaOf file x)))
-    by-answer (refused c) = after-line (refusedText (t .lines + 1) c) _ (refused-line (t .lines + 1) c)
-
-report-text : (file log : List ℕ) → 0 < length (reportText file log)
-unfolding reportText withRule
-report-text file log = by-rule (ruleOf file)
-  where
-    by-rule : (q : RuleRead) → 0 < length (withRule {A = List ℕ} q (λ c. refusedText 0 c) (λ x. textFrom file x noTrace 0 (linesOf log)))
-    by-rule (RuleRead.Rule x) = lines-text file x noTrace 0 (linesOf log)
-    by-rule (RuleRead.Refused n) = refused-line 0 n
-
-module _ (file log w out text : List ℕ) (a : Reported) (w′ out′ text′ : List ℕ) (r : Reports file log w out text a w′ out′ text′) where
-  numbered : (n : ℕ) → n ≡ reportNumber a → ReportsNumber file log w out text n w′ out′ text′
-  numbered n e =
-      record {
-        answer = ap (λ (k : ℕ). (k, w′, out′, text′)) e ∙ ap reportNumbered (r .answer);
-        meaning = subst (λ (z : Reported). Reports file log w out text z w′ out′ text′) (ap (λ (z : Result). z .0) (r .answer)) r;
-        not-empty = report-text file log;
-      }
-
-  pub reports : (n : ℕ) → a ≡ Reported.Length n → ReportsNumber file log w out text n w′ out′ text′
-  reports n e = numbered n (sym (ap reportNumber e))
-
-  pub too-short : (c : ℕ) → a ≡ Reported.Refused c → ReportsNumber file log w out text 0 w′ out′ text′
-  too-short c e = numbered 0 (sym (ap reportNumber e))
+pub reports : (file log w out text : List ℕ) (a : Reported) (w′ out′ text′ : List ℕ) → Reports file log w out text a w′ out′ text′
+    → (n : ℕ) → n ≡ reportNumber a → ReportsNumber file log w out text n w′ out′ text′
+reports file log w out text a w′ out′ text′ r n e =
+    record {
+      answer = ap (λ (k : ℕ). (k, w′, out′, text′)) e ∙ ap reportNumbered (r .answer);
+      meaning = subst (λ (z : Reported). Reports file log w out text z w′ out′ text′) (ap (λ (z : Result). z .0) (r .answer)) r;
+    }

@@ -7,7 +7,7 @@ use Rattle.lines.specs.Line.{eventOf}
 use Rattle.trace.specs.declared.RunNo.{RunNo}
 use Rattle.trace.specs.declared.Record.{Record}
 use Rattle.trace.specs.declared.Stepped.{Stepped}
-use Rattle.trace.specs.declared.Outcome.the-variants as Step
+use Rattle.trace.specs.declared.StepOutcome.the-variants as Step
 use Rattle.trace.specs.Trace.{Trace, next, step, runOf}
 use Rattle.trace.specs.Record.{recordOf, Bounded, Valid}
 use Rattle.trace.proofs.Bounds.{accepted-bounded}

@@ -10,12 +10,12 @@ use Rattle.pairs.specs.Grid.{workSize}
 use Rattle.rules.specs.declared.Rule.{Rule}
 use Rattle.rules.specs.declared.RuleRead.the-variants as RuleRead
 use Rattle.rules.specs.Rules.{ruleOf}
-use Rattle.reading.specs.Left.{Left}
+use Rattle.reading.specs.Left.{Left, Unknown}
 
 -- "21 no sequence of accepted lines leaves the record handed in, or the pair bytes are not that record's": the trace of the lines
 -- that leave them, or none
 abbrev pub HandedBy : Record → List ℕ → Option Trace → Type 0
-HandedBy r w none = (log : List ℕ) (t : Trace) → Left log t r w → ⊥
+HandedBy r w none = Unknown r w
 HandedBy r w (some t) = (log : List ℕ) × Left log t r w
 
 -- the work area is long enough and the rule is taken: only then is 21 looked for

@@ -16,7 +16,8 @@ use Rattle.logic.specs.declared.Verdict.{Verdict}
 use Rattle.logic.specs.declared.Verdict.the-variants as Verdict
 use Rattle.logic.specs.Verdict.{verdictOf}
 use Rattle.reading.specs.Reading.{byAnswer}
-use Rattle.tallies.specs.Tally.{tallyOf, failed, counts?, failingFrom, tallyAfter, finishedRuns}
+use Rattle.trace.specs.Orderly.{finishedRuns}
+use Rattle.tallies.specs.Tally.{tallyOf, failed, counts?, failingFrom, tallyAfter}
 use Rattle.trace.proofs.Taken.{by-answer}
 use Rattle.reading.proofs.Lines.{same-trace, after-line, no-line, line-alone, lines-counted}
 

@@ -17,7 +17,8 @@ use Rattle.trace.specs.declared.Record.{Record}
 use Rattle.trace.specs.Trace.{Trace, noRun, endLine}
 use Rattle.trace.specs.Steps.{held}
 use Rattle.trace.specs.Record.{recordOf, Bounded}
-use Rattle.trace.proofs.Finished.{finishedIn, finished-few}
+use Rattle.trace.specs.Orderly.{finishedRuns}
+use Rattle.trace.proofs.Finished.{finished-few}
 use Rattle.pairs.proofs.Pairs.{length-held}
 use Rattle.logic.specs.declared.Verdict.{Verdict}
 use Rattle.logic.specs.declared.Verdict.the-variants as Verdict
@@ -25,19 +26,11 @@ use Rattle.single.specs.declared.Outcome.the-variants.{Holds, Fails, Refused}
 use Rattle.single.specs.declared.Checked.{Checked}
 use Rattle.tallies.specs.declared.Tally.{Tally}
 use Rattle.single.specs.Line.{judged}
-use Rattle.tallies.specs.Tally.{finishedRuns, tallyOf, failed, counts?, refusingWith, CountsRecord, MatchesRecord, CountsLine}
+use Rattle.tallies.specs.Tally.{tallyOf, failed, counts?, refusingWith, CountsRecord, MatchesRecord, CountsLine}
 use Rattle.reading.proofs.Settled.{held-runs}
 use Rattle.single.proofs.LineMeans.{judged-same, judged-taken}
 
 -- ── finished runs ──
-pub finished-same : (rs : List Run) → finishedRuns rs ≡ finishedIn rs
-unfolding finishedRuns finishedIn
-finished-same [] = refl
-finished-same (r ∷ rs) = ap (λ (n : ℕ). cond (eqb (endLine r) 0) 0 1 + n) (finished-same rs)
-
-pub finished-most : (rs : List Run) → finishedRuns rs ≤ length rs
-finished-most rs = omega (arith, finished-same rs, finished-few rs)
-
 -- one run more
 module _ (t : RunTable) (long : length (t .list) ≡ 128) (few : t .count ≤ 128) (k i : ℕ) (h : i < t .count) where
   abbrev runHere : Run
@@ -69,7 +62,7 @@ count-all t long few k i f h s =
     omega arith
 
 pub finished-table : (t : RunTable) → length (t .list) ≡ 128 → t .count ≤ 128 → (n : ℕ) → n ≡ finishedRuns (held t) → n ≤ t .count
-finished-table t long few n e = omega (arith, e, finished-most (held t), length-held t long few)
+finished-table t long few n e = omega (arith, e, finished-few (held t), length-held t long few)
 
 -- ── the tally of a record ──
 pub counts-record : (r : Record) (n f : ℕ) → f ≡ finishedRuns (held (r .runs))

@@ -16,7 +16,7 @@ use Rattle.lines.specs.Log.{linesOf}
 use Rattle.trace.specs.declared.Record.{Record}
 use Rattle.trace.specs.Trace.{Trace, Answer, next, refused, Accepted, step}
 use Rattle.trace.proofs.Taken.{line-lines, by-answer, line-taken}
-use Rattle.trace.proofs.Finished.{Counts, begin-counts, end-counts}
+use Rattle.trace.proofs.Finished.{CountsMore, begin-counts, end-counts}
 use Rattle.trace.proofs.Grown.{taken-grows}
 use Rattle.trace.proofs.Induction.{accepted-keeps}
 use Rattle.pairs.specs.Grid.{workSize}
@@ -34,11 +34,12 @@ use Rattle.tallies.specs.declared.Tallied.{Tallied}
 use Rattle.reading.specs.Left.{Left}
 use Rattle.single.specs.Handed.{HandedBy, Reached}
 use Rattle.single.specs.Line.{judged, refusing, lineAfter, stateOf, withRule, lineOf, LineMeans}
-use Rattle.tallies.specs.Tally.{finishedRuns, tallyOf, failed, TallyCounts, untallied, TalliedMeans, beginsRun, endsRun, beginLines, endLines, counts?, refusingWith, talliedAfter, talliedState, talliedOf, tallyAfter, ChecksTallied}
+use Rattle.trace.specs.Orderly.{finishedRuns}
+use Rattle.tallies.specs.Tally.{tallyOf, failed, TallyCounts, untallied, TalliedMeans, beginsRun, endsRun, beginLines, endLines, counts?, refusingWith, talliedAfter, talliedState, talliedOf, tallyAfter, ChecksTallied}
 use Rattle.reading.proofs.Standing.{pairs-long}
 use Rattle.single.proofs.LineMeans.{judged-same, judged-taken, line-means}
 use Rattle.single.proofs.LineCall.{with-taken}
-use Rattle.tallies.proofs.Tallies.{finished-same, finished-most}
+use Rattle.trace.proofs.Finished.{finished-few}
 use Rattle.reading.proofs.Lines.{same-trace}
 use Rattle.tallies.proofs.Failing.{tally-goes-on}
 
@@ -49,11 +50,11 @@ taken-counts : (l : List ℕ) (t u : Trace) → step (next t) l ≡ next u
 taken-counts l t u =
     line-taken (λ e. (length (u .runs) ≡ length (t .runs) + beginsRun e) × (finishedRuns (u .runs) ≡ finishedRuns (t .runs) + endsRun e)) t u
     (λ i s b.
-    let c : Counts t u 1 0 = subst (λ (v : Trace). Counts t v 1 0) (sym (b .is)) (begin-counts t i (labelOf s)) in
-    (c .runs, omega (arith, finished-same (t .runs), finished-same (u .runs), c .finished)))
+    let c : CountsMore t u 1 0 = subst (λ (v : Trace). CountsMore t v 1 0) (sym (b .is)) (begin-counts t i (labelOf s)) in
+    (c .runs, omega (arith, c .finished)))
     (λ i b.
-    let c : Counts t u 0 1 = subst (λ (v : Trace). Counts t v 0 1) (sym (b .is)) (end-counts t i (b .old) (b .running)) in
-    (c .runs, omega (arith, finished-same (t .runs), finished-same (u .runs), c .finished)))
+    let c : CountsMore t u 0 1 = subst (λ (v : Trace). CountsMore t v 0 1) (sym (b .is)) (end-counts t i (b .old) (b .running)) in
+    (c .runs, omega (arith, c .finished)))
     l
 
 -- THE LAW: "Begun is the count of accepted begin lines, finished that of accepted end lines, and begun equals finished plus open."
@@ -69,7 +70,7 @@ accepted-tally log t n a =
       lines = omega (arith, k .0);
       begun = omega (arith, k .1);
       finished = omega (arith, k .2);
-      balance = omega (arith, finished-most (t .runs));
+      balance = omega (arith, finished-few (t .runs));
     }
 
 -- ── the call with a tally is the single-line call ──

@@ -12,6 +12,7 @@ use Rattle.lines.specs.Log.{linesOf}
 use Rattle.trace.specs.declared.Run.{Run}
 use Rattle.trace.specs.declared.Record.{Record}
 use Rattle.trace.specs.Trace.{Trace, Answer, next, refused, noTrace, endLine, Accepted, step}
+use Rattle.trace.specs.Orderly.{finishedRuns}
 use Rattle.trace.specs.Steps.{held}
 use Rattle.trace.specs.Record.{recordOf}
 use Rattle.pairs.specs.Grid.{workSize}
@@ -30,11 +31,6 @@ use Rattle.reading.specs.Left.{Left}
 use Rattle.single.specs.Handed.{HandedBy, Reached}
 use Rattle.single.specs.Line.{judged, withRule, LineMeans}
 use Rattle.reading.specs.Reading.{byAnswer}
-
--- how many runs are finished
-unfoldable pub finishedRuns : List Run → ℕ
-finishedRuns [] = 0
-finishedRuns (r ∷ rs) = cond (eqb (endLine r) 0) 0 1 + finishedRuns rs
 
 -- The tally of the lines that t stands for, n of which failed. "Begun is the count of accepted begin lines, finished that of
 -- accepted end lines, and begun equals finished plus open."

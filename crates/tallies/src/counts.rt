@@ -1,10 +1,12 @@
 // Tallies: the counts of a record, whether a tally has them, the tally after a line, and its update where it stands.
 ghost use mathlib.Core.Path.{_≡_};
 ghost use Prim.Native.Nat.{_≤_};
+ghost use Rattle.lists.specs.Limits.{maxRuns, maxLines};
 ghost use Rattle.trace.specs.Steps.{held};
 ghost use Rattle.rules.specs.Rules.{Taken};
 ghost use Rattle.reading.specs.Left.{Standing};
-ghost use Rattle.tallies.specs.Tally.{finishedRuns, refusingWith, CountsRecord, MatchesRecord, CountsLine, AdvancesTallied};
+ghost use Rattle.trace.specs.Orderly.{finishedRuns};
+ghost use Rattle.tallies.specs.Tally.{refusingWith, CountsRecord, MatchesRecord, CountsLine, AdvancesTallied};
 use crate::Tallied;
 use crate::Tally;
 use rules::Rule;
@@ -27,7 +29,7 @@ pub fn refuse_tallied(r: Record, y: Tally, n: u8) -> Tallied
 
 // How many runs of the table are finished.
 fn finished_count(t: RunTable) -> u32
-    requires { ⌜ t .count ≤ 128 ⌝ }
+    requires { ⌜ t .count ≤ maxRuns ⌝ }
     ensures { λ n. ⌜ n ≡ finishedRuns (held t) ⌝ }
 {
     let n = t.count;
@@ -45,7 +47,7 @@ fn finished_count(t: RunTable) -> u32
 
 // The tally of a record, with the count of failing lines.
 pub fn tally_of(r: Record, failing: u32) -> Tally
-    requires { ⌜ r .runs .count ≤ 128 ⌝ }
+    requires { ⌜ r .runs .count ≤ maxRuns ⌝ }
     ensures { λ y. ⌜ CountsRecord r failing y ⌝ }
 {
     let runs = r.runs;
@@ -62,7 +64,7 @@ pub fn tally_of(r: Record, failing: u32) -> Tally
 
 // Whether a tally has the counts of a record.
 fn counts_match(r: Record, y: Tally) -> bool
-    requires { ⌜ r .runs .count ≤ 128 ⌝ }
+    requires { ⌜ r .runs .count ≤ maxRuns ⌝ }
     ensures { λ b. ⌜ MatchesRecord r y b ⌝ }
 {
     let z = tally_of(r, y.failing);
@@ -83,7 +85,7 @@ fn counts_match(r: Record, y: Tally) -> bool
 
 // The answer with the tally after a line: the same tally where the line is refused.
 fn count_line(c: Checked, y: Tally) -> Tallied
-    requires { ⌜ (c .state .runs .count ≤ 128) × (y .failing ≤ 256) ⌝ }
+    requires { ⌜ (c .state .runs .count ≤ maxRuns) × (y .failing ≤ maxLines) ⌝ }
     ensures { λ a. ⌜ CountsLine c y a ⌝ }
 {
     let state = c.state;

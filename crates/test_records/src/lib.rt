@@ -149,3 +149,8 @@ pub fn same_record(a: Record, b: Record) -> bool {
     }
     labels::same_table(a.labels, b.labels)
 }
+
+// Writes the counts of lines, runs and labels.
+pub fn write_counts(r: Record) {
+    test_text::write_three(r.lines.0 as u64, r.runs.count as u64, r.labels.count as u64);
+}

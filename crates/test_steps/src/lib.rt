@@ -3,15 +3,15 @@
 // `take_line` takes a line that is given with its LF, `take_next` what a log reader hands out. `read_from` takes all lines of a log
 // and writes what happens to each. `numbered_line` makes one line of many.
 use lines::Next;
-use trace::Outcome;
 use trace::Record;
+use trace::StepOutcome;
 use trace::Stepped;
 
 // The answer to a line that is refused.
 fn refused(r: Record, code: u8) -> Stepped {
     Stepped {
         state: r,
-        outcome: Outcome::Refused(code),
+        outcome: StepOutcome::Refused(code),
     }
 }
 
@@ -21,7 +21,7 @@ pub fn take_line(r: Record, line: &[u8]) -> Stepped {
         return refused(r, 21);
     }
     let said = reading::said_in(line);
-    columns::take_event(r, said)
+    steps::take_event(r, said)
 }
 
 // Takes the line that stands in a log from start to before end.
@@ -44,22 +44,22 @@ pub fn take_next(r: Record, log: &[u8], n: Next) -> Stepped {
 }
 
 // Writes what happened to a line.
-fn write_outcome(o: Outcome) {
+fn write_outcome(o: StepOutcome) {
     match o {
-        Outcome::Taken(k) => {
+        StepOutcome::Taken(k) => {
             test_text::write(b"taken run ");
             test_text::write_number(k.0 as u64);
         }
-        Outcome::Refused(code) => test_text::write_refusal(code),
+        StepOutcome::Refused(code) => test_text::write_refusal(code),
     }
     test_text::write(b"\n");
 }
 
 // Whether a line was taken.
-fn was_taken(o: Outcome) -> bool {
+fn was_taken(o: StepOutcome) -> bool {
     match o {
-        Outcome::Taken(_) => true,
-        Outcome::Refused(_) => false,
+        StepOutcome::Taken(_) => true,
+        StepOutcome::Refused(_) => false,
     }
 }
 

@@ -22,10 +22,10 @@ use Rattle.logic.specs.Verdict.{Says}
 use Rattle.logic.proofs.Judged.{closed-says}
 use Rattle.order.specs.declared.Order.{Order}
 use Rattle.order.specs.Order.{orderTo, finishOrder}
-use Rattle.order.specs.Marks.{Holds}
+use Rattle.order.specs.Marks.{OrderHeld}
 use Rattle.order.proofs.Counted.{order-few, order-rises}
 use Rattle.order.proofs.Stable.{first-count}
-use Rattle.matrix.specs.Truth.{truth}
+use Rattle.row_table.specs.Truth.{truth}
 use Rattle.rows.specs.RankModel.{rankModel}
 use Rattle.timeline.specs.declared.Timeline.{Timeline}
 use Rattle.timeline.specs.Root.{noRuns, TrueAmong}
@@ -48,7 +48,7 @@ module _ (log : List ℕ) (u : Trace) (a : Accepted log u) where
   first-lines k t l first =
       lines-counted (take k (linesOf log)) t first ∙ length-take-le k (linesOf log) (omega (arith, lines-of))
 
-  module _ (o : Order) (H : Holds (orderTo (u .runs)) (u .lines) o) where
+  module _ (o : Order) (H : OrderHeld (orderTo (u .runs)) (u .lines) o) where
     -- no line has more finished runs than there are runs
     pub done-few : (l : ℕ) → getD (o .done) l 0 ≤ 128
     done-few l =

@@ -8,7 +8,7 @@ use native.Mathlib.Omega.{arith}
 use lib.ListN.{length, getD}
 use Rattle.sets.specs.declared.RunSet.{RunSet}
 use Rattle.labels.specs.Label.{labelOf}
-use Rattle.labels.specs.Table.{lookup}
+use Rattle.labels.specs.Search.{lookup}
 use Rattle.trace.specs.declared.Record.{Record}
 use Rattle.trace.specs.Trace.{Trace, Accepted}
 use Rattle.trace.specs.Record.{recordOf, Valid}
@@ -21,9 +21,9 @@ use Rattle.logic.specs.Shown.{slotNumber}
 use Rattle.logic.proofs.Judged.{label-found}
 use Rattle.order.specs.declared.Order.{Order}
 use Rattle.order.specs.Order.{orderTo}
-use Rattle.order.specs.Marks.{EndsFit, Holds, Orders}
+use Rattle.order.specs.Marks.{EndsFit, OrderHeld, Orders}
 use Rattle.order.proofs.Meaning.{accepted-ends-fit}
-use Rattle.matrix.specs.Truth.{truth}
+use Rattle.row_table.specs.Truth.{truth}
 use Rattle.rows.specs.Values.{Wanted}
 use Rattle.rows.specs.ByRank.{OrderFits}
 use Rattle.rows.proofs.Meaning.{order-fits, wanted-low}
@@ -40,9 +40,9 @@ unfolding recordOf
 lines-are r u e = ap (λ (q : Record). q .lines .0) e
 
 module _ (log : List ℕ) (u : Trace) (a : Accepted log u) (r : Record) (e : r ≡ recordOf u) where
-  order-holds : (o : Order) → Orders (r .runs) (r .lines .0) o → Holds (orderTo (u .runs)) (u .lines) o
+  order-holds : (o : Order) → Orders (r .runs) (r .lines .0) o → OrderHeld (orderTo (u .runs)) (u .lines) o
   order-holds o h =
-      subst (λ (n : ℕ). Holds (orderTo (u .runs)) n o) (lines-are r u e) (h .meaning log u a (ap (λ (q : Record). q .runs) e) (lines-are r u e))
+      subst (λ (n : ℕ). OrderHeld (orderTo (u .runs)) n o) (lines-are r u e) (h .meaning log u a (ap (λ (q : Record). q .runs) e) (lines-are r u e))
 
   wanted-in : (file : List ℕ) (x : Rule) (wanted : List ℕ) → Taken file x → Found file x r wanted → WantedIn u file wanted
   wanted-in file x wanted taken found p h =
@@ -83,7 +83,7 @@ module _ (r : Record) (v : Valid r) where
       record {
         fits = done-low o h;
         says = λ log u a e.
-            let H : Holds (orderTo (u .runs)) (u .lines) o = order-holds log u a r e o h in
+            let H : OrderHeld (orderTo (u .runs)) (u .lines) o = order-holds log u a r e o h in
             line-says log u a o H (formulaOf file x) (taken .closed) (record { moments = s; first = first; done = o .done }) refl line
             (ranks log u a (ap (λ (q : Record). q .runs) e) H (wanted-in log u a r e file x wanted taken found)) before;
       }

@@ -26,7 +26,7 @@ use Rattle.order.specs.Order.{orderTo, finishOrder, rankOf}
 use Rattle.order.proofs.Counted.{order-rises, order-front}
 use Rattle.order.proofs.Ranks.{Place, Ranked, ranked-finished, finished-ranked}
 use Rattle.order.proofs.Stable.{Later, first-later}
-use Rattle.matrix.specs.Truth.{atMoment, truth}
+use Rattle.row_table.specs.Truth.{atMoment, truth}
 use Rattle.rows.specs.RankModel.{rankRun, rankModel}
 use Rattle.rows.proofs.Meaning.{any-default}
 use Rattle.timeline.proofs.Mirrored.{FinishedWith, Mirrors, eval-mirrored}

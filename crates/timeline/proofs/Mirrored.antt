@@ -11,7 +11,7 @@ use Rattle.lists.proofs.Cases.{no-both, and-left, and-right}
 use Rattle.rules.specs.Formula.{Pairing, Formula, both, neg, exists, has, pair, Scope, noScope, enter, scoped}
 use Rattle.logic.specs.Satisfies.{Binding, bind}
 use Rattle.logic.specs.Model.{Model, eval}
-use Rattle.matrix.proofs.Truth.{same-truth}
+use Rattle.row_table.proofs.Truth.{same-truth}
 
 -- a finished run of the model, of which the claim holds
 pub record FinishedWith (M : Model) (P : ℕ → Type 0) : Type 0 where

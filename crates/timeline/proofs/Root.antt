@@ -16,11 +16,11 @@ use Rattle.logic.specs.Satisfies.{Binding}
 use Rattle.logic.specs.Model.{Model}
 use Rattle.logic.proofs.Closed.{eval-closed}
 use Rattle.shape.specs.Tables.{Height, FreeMask, TableOf}
-use Rattle.matrix.specs.declared.Bindings.{Bindings}
-use Rattle.matrix.specs.Truth.{atMoment, truth, at, TrueAt}
+use Rattle.row_table.specs.declared.Bindings.{Bindings}
+use Rattle.row_table.specs.Truth.{atMoment, truth, at, TrueAt}
 use Rattle.moments.specs.Shape.{Heights, Frees}
-use Rattle.matrix.specs.Rows.{tableWords, pairOf, RowsOf}
-use Rattle.matrix.specs.Ready.{rank, InRange}
+use Rattle.row_table.specs.Rows.{tableWords, pairOf, RowsOf}
+use Rattle.row_table.specs.Ranks.{rank, InRange}
 use Rattle.moments.specs.Ready.{Ready}
 use Rattle.rank_tables.proofs.Tables.{new-row}
 use Rattle.timeline.specs.Root.{noRuns, Shaped, TrueAmong}

@@ -21,9 +21,9 @@ use Rattle.logic.specs.Model.{Model}
 use Rattle.logic.specs.Shown.{numberFor}
 use Rattle.order.specs.declared.Order.{Order}
 use Rattle.order.specs.Order.{orderTo}
-use Rattle.order.specs.Marks.{Holds}
+use Rattle.order.specs.Marks.{OrderHeld}
 use Rattle.shape.specs.Tables.{Height, FreeMask, TableOf}
-use Rattle.matrix.specs.Truth.{truth}
+use Rattle.row_table.specs.Truth.{truth}
 use Rattle.rows.specs.RankModel.{rankModel}
 
 -- "A run is finished once its end line is among the lines read": before the first end line there is none
@@ -48,5 +48,5 @@ WantedIn u file wanted = (p : ℕ) → p < labelCount file → getD wanted p 0 �
 -- s has the moments from low on at which the rule is true of the runs of a record, in the order in which they finish
 abbrev pub TrueOfRanks : List ℕ → Rule → List ℕ → RunTable → Order → ℕ → RunSet → Type 0
 TrueOfRanks file x wanted t o low s =
-    (log : List ℕ) (u : Trace) → Accepted log u → t ≡ recordOf u .runs → Holds (orderTo (u .runs)) (u .lines) o → WantedIn u file wanted
+    (log : List ℕ) (u : Trace) → Accepted log u → t ≡ recordOf u .runs → OrderHeld (orderTo (u .runs)) (u .lines) o → WantedIn u file wanted
     → TrueAmong (rankModel u) (formulaOf file x) low (o .count) s

@@ -1,17 +1,16 @@
-// A rule's verdicts over a log, all judged at once: one letter for no lines, and one for each line.
+// A rule's verdicts over a log, all judged at once or each after its own line: one letter for no lines, and one for each line.
 ghost use Prim.Native.Nat.{_≤_};
 ghost use Rattle.rules.specs.Rules.{Taken};
 ghost use Rattle.timeline.specs.AllLines.{FitsRuns};
-use lines::Next;
+use super::each;
 use logic::Verdict;
 use rules::Rule;
 use rules::RuleRead;
 use timeline::Timeline;
-use trace::Outcome;
 use trace::Record;
 
 // Writes a verdict: H or F.
-fn write_verdict(v: Verdict) {
+pub fn write_verdict(v: Verdict) {
     match v {
         Verdict::Holds => test_text::write(b"H"),
         Verdict::Fails => test_text::write(b"F"),
@@ -30,7 +29,7 @@ fn write_verdicts(y: Timeline, lines: usize)
 }
 
 // Writes the verdicts of the lines that left a record.
-pub fn write_record(file: &[u8], x: Rule, r: Record)
+fn write_record(file: &[u8], x: Rule, r: Record)
     requires { ⌜ Taken (now file) x ⌝ }
 {
     if !replay::is_record(r) {
@@ -42,47 +41,26 @@ pub fn write_record(file: &[u8], x: Rule, r: Record)
     }
 }
 
-// Whether a line was taken.
-fn was_taken(o: Outcome) -> bool {
-    match o {
-        Outcome::Taken(_) => true,
-        Outcome::Refused(_) => false,
+// Writes a rule's verdicts over a log.
+fn show_rule(kind: u8, file: &[u8], x: Rule, log: &[u8])
+    requires { ⌜ Taken (now file) x ⌝ }
+{
+    if kind == b'a' {
+        write_record(file, x, test_steps::read_from(trace::no_lines(), log, b'q'));
+    } else {
+        each::show_log(file, x, log);
     }
-}
-
-// The record after the lines of a log, up to the first refused one.
-fn record_of(log: &[u8]) -> Record {
-    let mut r = trace::no_lines();
-    let mut place: usize = 0;
-    let mut left: usize = 256;
-    while 0 < left {
-        let n = lines::next_line(log, place);
-        if let Next::Done = n {
-            return r;
-        }
-        let a = test_steps::take_next(r, log, n);
-        r = a.state;
-        let o = a.outcome;
-        if !was_taken(o) {
-            return r;
-        }
-        place = lines::place_after(n, place);
-        left -= 1;
-    }
-    r
-}
-
-// Reads a rule file and writes its verdicts over the lines that left a record.
-pub fn show_record(file: &[u8], r: Record) {
-    let x = rule_file::read_rule(file);
-    match x {
-        RuleRead::Rule(rule) => write_record(file, rule, r),
-        RuleRead::Refused(code) => test_text::write_refusal(code),
-    }
-    test_text::write(b"\n");
 }
 
 // Reads a rule file and writes its verdicts over a log.
-pub fn show(file: &[u8], log: &[u8]) {
-    show_record(file, record_of(log));
+pub fn show(kind: u8, file: &[u8], log: &[u8]) {
+    let r = rule_file::read_rule(file);
+    match r {
+        RuleRead::Rule(x) => show_rule(kind, file, x, log),
+        RuleRead::Refused(code) => {
+            test_text::write(b"0 ");
+            test_text::write_refusal(code);
+        }
+    }
+    test_text::write(b"\n");
 }

@@ -3,7 +3,8 @@ use borrow.Author.Needs.{needs}
 use mathlib.Core.Path.{_≡_, ap, sym}
 use native.Mathlib.Omega.{arith}
 use Prim.Native.Nat.{ℕ, _<_, _≤_}
-use Rattle.labels.specs.Table.{probe, lookup, placeAt, labelAt, firstPlace, Readable}
+use Rattle.labels.specs.Table.{placeAt, labelAt, firstPlace}
+use Rattle.labels.specs.Search.{probe, lookup, Readable}
 use Rattle.labels.proofs.Probe.{first-low, turn-free, turn-seen, turn-next, turn-full}
 use Rattle.labels.proofs.Table.{finds}
 use Rattle.labels.proofs.find_label.Statement.{statement}

@@ -16,11 +16,11 @@ Inv-loop x n i₀ i = (i ≤ 24) × (sound? x ≡ soundFrom (n - i) (drop i (x .
 abbrev μ-loop : tie.MeasureT-loop
 μ-loop x n i₀ i = 24 - i
 
-returns : tie.Need-returns Inv-loop μ-loop
-returns c = (search sound-long, search needs)
-
 cast-n : tie.Need-cast-n Inv-loop μ-loop
 cast-n c = search needs
+
+returns : tie.Need-returns Inv-loop μ-loop
+returns c = (search sound-long, search needs)
 
 loop-holds : tie.Need-loop-holds Inv-loop μ-loop
 loop-holds c = (search needs, sound-start _ (search needs))
@@ -61,8 +61,8 @@ is-sound-spec =
     (tie.spec
     Inv-loop
     μ-loop
-    returns
     cast-n
+    returns
     loop-holds
     element-copy-out-b
     byte-sound-requires

@@ -7,47 +7,36 @@ use Rattle.log_check.proofs.make_report.Reads as reads
 use Rattle.log_check.proofs.make_report.Lts as lts
 use Rattle.report.proofs.report.Reads as report-reads
 
--- src/main.rt:59:9
 report-requires : tie.Need-report-requires
 report-requires c κs = search needs
 
--- src/main.rt:61:26
 enum-known-answer : tie.Need-enum-known-answer
 enum-known-answer c = search needs
 
--- src/main.rt:61:32
 same-length : tie.Need-same-length
 same-length c = search needs
 
--- src/main.rt:61:32
 same-length-2 : tie.Need-same-length-2
 same-length-2 c = search needs
 
--- src/main.rt:61:32
 same-length-3 : tie.Need-same-length-3
 same-length-3 c = search needs
 
--- src/main.rt:61:32
 returns : tie.Need-returns
 returns c = search prints
 
--- src/main.rt:63:33
 enum-told : tie.Need-enum-told
 enum-told c = search needs
 
--- src/main.rt:63:33
 same-length-4 : tie.Need-same-length-4
 same-length-4 c = search needs
 
--- src/main.rt:63:33
 same-length-5 : tie.Need-same-length-5
 same-length-5 c = search needs
 
--- src/main.rt:63:33
 same-length-6 : tie.Need-same-length-6
 same-length-6 c = search needs
 
--- src/main.rt:63:33
 returns-2 : tie.Need-returns-2
 returns-2 c = search not-refused
 

@@ -1,18 +1,16 @@
--- Each case begins behind the one before it.
-use Prim.Native.Nat.{_-_, _≤_}
-use lib.ListN.{length}
+-- Each case begins behind the one before it, and the buffers keep their lengths.
 use borrow.Author.Needs.{needs}
+use Prim.Native.Nat.{_≤_, _-_}
+use mathlib.Core.Path.{_≡_}
+use lib.ListN.{length}
 use Rattle.monitor_test.proofs.run.Statement.{statement}
 use Rattle.monitor_test.proofs.run.Tie as tie
 
 abbrev Inv-loop : tie.InvT-loop
-Inv-loop input s₀ at₀ s at = 0 ≤ at
+Inv-loop input file₀ area₀ s₀ at₀ file area s at = (0 ≤ at) × (length file ≡ length file₀) × (length area ≡ length area₀)
 
 abbrev μ-loop : tie.MeasureT-loop
-μ-loop input s₀ at₀ s at = length input - at
-
-nothing-requires : tie.Need-nothing-requires Inv-loop μ-loop
-nothing-requires c κs = search needs
+μ-loop input file₀ area₀ s₀ at₀ file area s at = length input - at
 
 loop-holds : tie.Need-loop-holds Inv-loop μ-loop
 loop-holds c = search needs
@@ -38,6 +36,12 @@ loop-less c = search needs
 loop-again : tie.Need-loop-again Inv-loop μ-loop
 loop-again c = search needs
 
+same-length : tie.Need-same-length Inv-loop μ-loop
+same-length c = search needs
+
+same-length-2 : tie.Need-same-length-2 Inv-loop μ-loop
+same-length-2 c = search needs
+
 returns : tie.Need-returns Inv-loop μ-loop
 returns c = search needs
 
@@ -47,7 +51,6 @@ run-spec =
     (tie.spec
     Inv-loop
     μ-loop
-    nothing-requires
     loop-holds
     case-at-requires
     sub-after
@@ -56,4 +59,6 @@ run-spec =
     after-requires
     loop-less
     loop-again
+    same-length
+    same-length-2
     returns)

@@ -3,7 +3,7 @@ use Prim.Native.Nat.{_-_, _≤_}
 use mathlib.Core.Path.{_≡_}
 use native.Mathlib.Omega.{arith}
 use borrow.Author.Needs.{needs}
-use Rattle.report.specs.Writing.{failsTo}
+use Rattle.report.specs.RecordText.{failsTo}
 use Rattle.report.proofs.Pieces.{fails-none, fails-next, fails-all}
 use Rattle.report.proofs.count_failing.Statement.{statement}
 use Rattle.report.proofs.count_failing.Tie as tie
@@ -17,35 +17,27 @@ Inv-loop verdicts n failing₀ i₀ failing i = (i ≤ n) × (failing ≤ i) × 
 abbrev μ-loop : tie.MeasureT-loop
 μ-loop verdicts n failing₀ i₀ failing i = n - i
 
--- src/lib.rt:60:5
 loop-holds : tie.Need-loop-holds Inv-loop μ-loop
 loop-holds c = (search needs, search needs, search fails-none)
 
--- src/lib.rt:61:26
 shared-slice-read-fails : tie.Need-shared-slice-read-fails Inv-loop μ-loop
 shared-slice-read-fails c = search needs
 
--- src/lib.rt:61:20
 fails-requires : tie.Need-fails-requires Inv-loop μ-loop
 fails-requires c κs = search needs
 
--- src/lib.rt:61:9
 add-failing : tie.Need-add-failing Inv-loop μ-loop
 add-failing c = search needs
 
--- src/lib.rt:62:9
 add-i : tie.Need-add-i Inv-loop μ-loop
 add-i c = search needs
 
--- src/lib.rt:60:5
 loop-less : tie.Need-loop-less Inv-loop μ-loop
 loop-less c = omega arith
 
--- src/lib.rt:60:5
 loop-again : tie.Need-loop-again Inv-loop μ-loop
 loop-again c = (search needs, search needs, search fails-next)
 
--- src/lib.rt:54:1
 returns : tie.Need-returns Inv-loop μ-loop
 returns c = (search fails-all, search needs)
 

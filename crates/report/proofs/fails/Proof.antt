@@ -5,11 +5,9 @@ use Rattle.report.proofs.fails.Tie as tie
 use Rattle.report.proofs.fails.Reads as reads
 use Rattle.report.proofs.fails.Lts as lts
 
--- src/lib.rt:43:1
 returns : tie.Need-returns
 returns c = (search fails-not, search needs)
 
--- src/lib.rt:43:1
 returns-2 : tie.Need-returns-2
 returns-2 c = (search fails-once, search needs)
 

@@ -4,13 +4,14 @@ use mathlib.Core.Path.{_≡_, refl}
 use native.Mathlib.Omega.{arith}
 use borrow.Author.Needs.{needs}
 use lib.ListN.{length}
-use Rattle.report.specs.Writing.{Writes, linesTo}
+use Rattle.text_pieces.specs.Writing.{Writes}
+use Rattle.report.specs.RecordText.{linesTo}
 use Rattle.report.proofs.Pieces.{lines-none, lines-next, lines-all}
 use Rattle.report.proofs.put_lines.Statement.{statement}
 use Rattle.report.proofs.put_lines.Tie as tie
 use Rattle.report.proofs.put_lines.Reads as reads
 use Rattle.report.proofs.put_lines.Lts as lts
-use Rattle.report.proofs.text.put_line.Reads as put-line-reads
+use Rattle.text_pieces.proofs.put_line.Reads as put-line-reads
 
 abbrev Inv-loop : tie.InvT-loop
 Inv-loop text₀ verdicts n at₀ i₀ text at i =
@@ -19,43 +20,33 @@ Inv-loop text₀ verdicts n at₀ i₀ text at i =
 abbrev μ-loop : tie.MeasureT-loop
 μ-loop text₀ verdicts n at₀ i₀ text at i = n - i
 
--- src/lib.rt:35:5
 loop-holds : tie.Need-loop-holds Inv-loop μ-loop
 loop-holds c = (search needs, search needs, refl, search lines-none)
 
--- src/lib.rt:36:40
 add-put-line : tie.Need-add-put-line Inv-loop μ-loop
 add-put-line c = omega arith
 
--- src/lib.rt:36:39
 cast-put-line : tie.Need-cast-put-line Inv-loop μ-loop
 cast-put-line c = search needs
 
--- src/lib.rt:36:55
 shared-slice-read-put-line : tie.Need-shared-slice-read-put-line Inv-loop μ-loop
 shared-slice-read-put-line c = search needs
 
--- src/lib.rt:36:9
 put-line-requires : tie.Need-put-line-requires Inv-loop μ-loop
 put-line-requires c κs = (search needs, search needs)
 
--- src/lib.rt:37:9
 add-i : tie.Need-add-i Inv-loop μ-loop
 add-i c = omega arith
 
--- src/lib.rt:35:5
 loop-less : tie.Need-loop-less Inv-loop μ-loop
 loop-less c = omega arith
 
--- src/lib.rt:35:5
 loop-again : tie.Need-loop-again Inv-loop μ-loop
 loop-again c = (search needs, search needs, search needs, search lines-next)
 
--- src/lib.rt:29:1
 same-length : tie.Need-same-length Inv-loop μ-loop
 same-length c = search needs
 
--- src/lib.rt:29:1
 returns : tie.Need-returns Inv-loop μ-loop
 returns c = (search lines-all, search needs)
 

@@ -4,42 +4,33 @@ use Rattle.report.proofs.report.Statement.{statement}
 use Rattle.report.proofs.report.Tie as tie
 use Rattle.report.proofs.report.Reads as reads
 use Rattle.report.proofs.report.Lts as lts
-use Rattle.monitor.proofs.check_log.Reads as check-log-reads
+use Rattle.whole_log.proofs.check_log.Reads as check-log-reads
 use Rattle.report.proofs.put_record.Reads as put-record-reads
 
--- src/lib.rt:97:9
 returns : tie.Need-returns
 returns c = search short-work
 
--- src/lib.rt:100:9
 returns-2 : tie.Need-returns-2
 returns-2 c = search short-verdicts
 
--- src/lib.rt:103:9
 returns-3 : tie.Need-returns-3
 returns-3 c = search short-text
 
--- src/lib.rt:105:9
 check-log-requires : tie.Need-check-log-requires
 check-log-requires c κs = search needs
 
--- src/lib.rt:106:9
 put-record-requires : tie.Need-put-record-requires
 put-record-requires c κs = (search of-trace, (search needs, search needs))
 
--- src/lib.rt:87:1
 same-length : tie.Need-same-length
 same-length c = search needs
 
--- src/lib.rt:87:1
 same-length-2 : tie.Need-same-length-2
 same-length-2 c = search needs
 
--- src/lib.rt:87:1
 same-length-3 : tie.Need-same-length-3
 same-length-3 c = search needs
 
--- src/lib.rt:87:1
 returns-4 : tie.Need-returns-4
 returns-4 c = search report-written
 

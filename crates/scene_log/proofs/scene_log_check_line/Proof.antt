@@ -4,9 +4,6 @@ use borrow.Author.Needs.{needs}
 use Rattle.scene_log.proofs.scene_log_check_line.Statement.{statement}
 use Rattle.scene_log.proofs.scene_log_check_line.Tie as tie
 
-mul-result : tie.Need-mul-result
-mul-result c = search needs
-
 returns : tie.Need-returns
 returns c = search line-no-record
 
@@ -32,7 +29,6 @@ pub scene-log-check-line-spec : {M : Type 1} → statement M
 scene-log-check-line-spec =
     tie.close
     (tie.spec
-    mul-result
     returns
     unpack-requires
     check-line-requires

@@ -4,20 +4,17 @@ use borrow.Author.Needs.{needs}
 use Rattle.scene_log.proofs.scene_log_relate.Statement.{statement}
 use Rattle.scene_log.proofs.scene_log_relate.Tie as tie
 
-add-result : tie.Need-add-result
-add-result c = search needs
-
 returns : tie.Need-returns
 returns c = search relate-no-record
 
 unpack-requires : tie.Need-unpack-requires
 unpack-requires c κs = search needs
 
-run-byte-requires : tie.Need-run-byte-requires
-run-byte-requires c κs = search needs
+as-byte-requires : tie.Need-as-byte-requires
+as-byte-requires c κs = search needs
 
-run-byte-requires-2 : tie.Need-run-byte-requires-2
-run-byte-requires-2 c κs = search needs
+as-byte-requires-2 : tie.Need-as-byte-requires-2
+as-byte-requires-2 c κs = search needs
 
 relate-requires : tie.Need-relate-requires
 relate-requires c κs = search needs
@@ -32,11 +29,10 @@ pub scene-log-relate-spec : {M : Type 1} → statement M
 scene-log-relate-spec =
     tie.close
     (tie.spec
-    add-result
     returns
     unpack-requires
-    run-byte-requires
-    run-byte-requires-2
+    as-byte-requires
+    as-byte-requires-2
     relate-requires
     relation-number-requires
     returns-2)

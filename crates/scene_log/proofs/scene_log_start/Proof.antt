@@ -16,6 +16,9 @@ enum-known-outcome c = search needs
 cast-result : tie.Need-cast-result
 cast-result c = search needs
 
+mul-result : tie.Need-mul-result
+mul-result c = search needs
+
 same-length : tie.Need-same-length
 same-length c = search needs
 
@@ -45,6 +48,7 @@ scene-log-start-spec =
     start-record-requires
     enum-known-outcome
     cast-result
+    mul-result
     same-length
     returns-2
     enum-told

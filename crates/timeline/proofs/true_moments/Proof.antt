@@ -1,6 +1,6 @@
 -- The tables of shapes make the root ready for the evaluator; the formula is closed, so its moments are the same for every binding.
 use Rattle.rules.specs.Rules.{formulaOf}
-use Rattle.matrix.specs.Ready.{binding}
+use Rattle.row_table.specs.Ranks.{binding}
 use Rattle.timeline.proofs.Root.{fromZero, root-ready, true-among}
 use borrow.Author.Needs.{needs}
 use Rattle.timeline.proofs.true_moments.Statement.{statement}

@@ -6,7 +6,7 @@ use borrow.Author.Needs.{needs}
 use lib.ListN.{length, getD}
 use Rattle.labels.specs.declared.Label.{Label}
 use Rattle.labels.specs.Label.{labelOf}
-use Rattle.labels.specs.Table.{lookup}
+use Rattle.labels.specs.Search.{lookup}
 use Rattle.rules.specs.Labels.{labelBytes}
 use Rattle.logic.specs.Shown.{slotNumber}
 use Rattle.logic.proofs.Bytes.{one-stored}

@@ -9,11 +9,12 @@ use Rattle.rules.specs.Table.{formulaAt}
 use Rattle.rules.proofs.Formulas.{good-room, some-variable, atom-fields}
 use Rattle.logic.specs.Satisfies.{Binding}
 use Rattle.matrix.specs.Matrix.{rowed}
-use Rattle.matrix.specs.Ready.{binding}
-use Rattle.matrix.proofs.Nodes.{true-from, true-neg, moments-and, moments-and-none, moments-neg, moments-some, moments-atom}
-use Rattle.matrix.proofs.Some.{some-at-once}
+use Rattle.row_table.specs.Ranks.{binding}
+use Rattle.row_table.proofs.Nodes.{true-from, true-neg, moments-and, moments-and-none, moments-neg, moments-some, moments-atom}
+use Rattle.row_table.proofs.Some.{some-at-once}
 use Rattle.matrix.proofs.Rowed.{rowed-bind, rowed-fixed}
-use Rattle.matrix.proofs.Ready.{each-ready, left-rows, right-rows, not-rows, some-rows, unmarked, some-flat, atom-rows-ready, all-finished}
+use Rattle.row_table.proofs.Atoms.{all-finished}
+use Rattle.matrix.proofs.Ready.{each-ready, left-rows, right-rows, not-rows, some-rows, unmarked, some-flat, atom-rows-ready}
 use borrow.Fn.Kinds.{In}
 use borrow.Fn.PlainCycle.{Measures, is, falls, and}
 use Rattle.matrix.proofs.keep.keep_not.Reads as keep-not
@@ -31,7 +32,7 @@ use Rattle.set_table.proofs.meet_upward.Reads as meet-upward-reads
 use Rattle.set_table.proofs.minus_rows.Reads as minus-rows-reads
 use Rattle.set_table.proofs.no_rows.Reads as no-rows-reads
 use Rattle.set_table.proofs.set_each.Reads as set-each-reads
-use Rattle.matrix.proofs.ranks.rebound.Reads as rebound-reads
+use Rattle.row_table.proofs.ranks.rebound.Reads as rebound-reads
 use Rattle.rules.proofs.table.node_at.Reads as node-at-reads
 use Rattle.sets.proofs.below.Reads as below-reads
 use Rattle.matrix.proofs.keep.+keep_not+keep_rows+keep_some.{statement}

@@ -3,8 +3,8 @@ use Prim.Native.Nat.{ℕ, _-_, _<_}
 use mathlib.Core.Path.{ap}
 use native.Mathlib.Omega.{arith}
 use Rattle.matrix.specs.Matrix.{inRow, rowed}
-use Rattle.matrix.specs.Ready.{binding}
-use Rattle.matrix.proofs.Atoms.{atom-label, atom-pair}
+use Rattle.row_table.specs.Ranks.{binding}
+use Rattle.row_table.proofs.Atoms.{atom-label, atom-pair}
 use Rattle.set_table.proofs.Turns.{narrowed-as}
 use Rattle.matrix.proofs.Rowed.{in-row-low}
 use borrow.Author.Needs.{needs}

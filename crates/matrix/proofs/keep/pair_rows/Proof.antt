@@ -2,8 +2,8 @@
 use Prim.Native.Nat.{ℕ, _<_}
 use mathlib.Core.Path.{sym, ap, ap₂, _∙_}
 use native.Mathlib.Omega.{arith}
-use Rattle.matrix.specs.Truth.{standsFor}
-use Rattle.matrix.specs.Rows.{pairOf}
+use Rattle.row_table.specs.Truth.{standsFor}
+use Rattle.row_table.specs.Rows.{pairOf}
 use Rattle.set_table.proofs.Turns.{narrowed-as}
 use Rattle.matrix.proofs.Rowed.{row-first, row-second, pick-stands, row-stands, one-stands, same-stands}
 use borrow.Author.Needs.{needs}

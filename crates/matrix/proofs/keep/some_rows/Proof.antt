@@ -2,7 +2,7 @@
 use mathlib.Core.Path.{refl, sym, _∙_}
 use native.Mathlib.Omega.{arith}
 use Rattle.rules.specs.Table.{formulaAt}
-use Rattle.matrix.specs.Ready.{binding}
+use Rattle.row_table.specs.Ranks.{binding}
 use Rattle.matrix.proofs.Some.{some-by-rows}
 use Rattle.matrix.proofs.Ready.{mark-ready}
 use Rattle.matrix.proofs.keep.some_rows.Statement.{statement}

@@ -13,15 +13,15 @@ use Rattle.sets.specs.declared.RunSet.{RunSet}
 use Rattle.rules.specs.Table.{formulaAt}
 use Rattle.rules.proofs.Formulas.{good-room, some-variable, atom-fields}
 use Rattle.logic.specs.Model.{Model}
-use Rattle.matrix.specs.Truth.{FalseWithout}
-use Rattle.matrix.specs.Rows.{RowsOf}
-use Rattle.matrix.specs.Ready.{binding}
-use Rattle.matrix.proofs.Nodes.{moments-and, moments-and-none, moments-not, moments-some, moments-atom}
+use Rattle.row_table.specs.Truth.{FalseWithout}
+use Rattle.row_table.specs.Rows.{RowsOf}
+use Rattle.row_table.specs.Ranks.{binding}
+use Rattle.row_table.proofs.Nodes.{moments-and, moments-and-none, moments-not, moments-some, moments-atom}
 use Rattle.moments.proofs.Tried.{Tried, tried-none, tried-more, tried-skip, tried-all}
-use Rattle.matrix.proofs.Some.{some-at-once}
+use Rattle.row_table.proofs.Some.{some-at-once}
 use Rattle.moments.proofs.Open.{keep-all, keeps-and, keeps-some, keeps-flat, dropped-false, none-dropped}
 use Rattle.moments.proofs.Ready.{left-ready, right-ready, not-ready, some-ready, atom-ready, rebound-ready, rows-ready}
-use Rattle.matrix.proofs.Ready.{all-finished}
+use Rattle.row_table.proofs.Atoms.{all-finished}
 use borrow.Fn.Kinds.{In}
 use borrow.Fn.PlainCycle.{Measures, is, falls, and}
 use Rattle.moments.proofs.times.kept.Reads as kept
@@ -43,9 +43,9 @@ use Rattle.moments.proofs.times.times.Reads as times
 use Rattle.moments.proofs.times.times.Kinds as times-kinds
 use Rattle.moments.proofs.times.+kept+opened+some+some_flat+some_loop+times.Lts-times as times-lts
 use Rattle.matrix.proofs.keep.some_rows.Reads as some-rows-reads
-use Rattle.matrix.proofs.ranks.fixed.Reads as fixed-reads
-use Rattle.matrix.proofs.ranks.rebound.Reads as rebound-reads
-use Rattle.matrix.proofs.table.atom_set.Reads as atom-set-reads
+use Rattle.row_table.proofs.ranks.fixed.Reads as fixed-reads
+use Rattle.row_table.proofs.ranks.rebound.Reads as rebound-reads
+use Rattle.row_table.proofs.table.atom_set.Reads as atom-set-reads
 use Rattle.moments.proofs.search.closed.Reads as closed-reads
 use Rattle.set_table.proofs.left_of.Reads as left-of-reads
 use Rattle.moments.proofs.search.marked.Reads as marked-reads

@@ -1,14 +1,16 @@
--- The loop takes at most 256 lines.
-use Prim.Native.Nat.{_≤_}
+-- The loop takes at most 256 lines, and the work area keeps its length.
 use borrow.Author.Needs.{needs}
+use Prim.Native.Nat.{_≤_}
+use mathlib.Core.Path.{_≡_}
+use lib.ListN.{length}
 use Rattle.monitor_test.proofs.calls.each_line.Statement.{statement}
 use Rattle.monitor_test.proofs.calls.each_line.Tie as tie
 
 abbrev Inv-loop : tie.InvT-loop
-Inv-loop kind log q₀ place₀ left₀ q place left = left ≤ 256
+Inv-loop kind file work₀ log q₀ place₀ left₀ work q place left = (left ≤ 256) × (length work ≡ length work₀)
 
 abbrev μ-loop : tie.MeasureT-loop
-μ-loop kind log q₀ place₀ left₀ q place left = left
+μ-loop kind file work₀ log q₀ place₀ left₀ work q place left = left
 
 loop-holds : tie.Need-loop-holds Inv-loop μ-loop
 loop-holds c = search needs
@@ -28,6 +30,9 @@ loop-less c = search needs
 loop-again : tie.Need-loop-again Inv-loop μ-loop
 loop-again c = search needs
 
+same-length : tie.Need-same-length Inv-loop μ-loop
+same-length c = search needs
+
 returns : tie.Need-returns Inv-loop μ-loop
 returns c = search needs
 
@@ -43,4 +48,5 @@ each-line-spec =
     sub-left
     loop-less
     loop-again
+    same-length
     returns)

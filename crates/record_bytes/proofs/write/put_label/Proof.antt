@@ -5,7 +5,7 @@ use native.Mathlib.Omega.{arith}
 use borrow.Author.Needs.{needs}
 use lib.ListN.{length, getD, length-set}
 use Rattle.record_bytes.specs.Joined.{values, stored}
-use Rattle.record_bytes.specs.Form.{labelsAt, labelSize, labelBytes}
+use Rattle.record_bytes.specs.Form.{labelsAt, labelSize, packedLabel}
 use Rattle.record_bytes.proofs.Joined.{joined-none, value-next, stored-long, stored-first}
 use Rattle.record_bytes.proofs.write.put_label.Statement.{statement}
 use Rattle.record_bytes.proofs.write.put_label.Tie as tie
@@ -53,7 +53,7 @@ loop-again c =
     (search needs, length-set (l .loop .out) _ _ ∙ l .loop .inv .1, value-next _ _ _ _ (l .loop .j) _ _ (l .loop .inv .2) refl refl)
 
 returns : tie.Need-returns Inv-loop μ-loop
-unfolding labelBytes
+unfolding packedLabel
 returns c =
     let l = c .before in
     let e : l .loop .j ≡ 24 = omega arith in

@@ -6,7 +6,7 @@ use borrow.Author.Needs.{needs}
 use lib.ListN.{length, getD}
 use Rattle.labels.specs.Label.{absent}
 use Rattle.record_bytes.specs.Joined.{joined, stored}
-use Rattle.record_bytes.specs.Form.{labelsAt, labelBytes, labelsBytes}
+use Rattle.record_bytes.specs.Form.{labelsAt, packedLabel, labelsBytes}
 use Rattle.record_bytes.proofs.Joined.{joined-none, joined-next, stored-long}
 use Rattle.record_bytes.proofs.Form.{label-long}
 use Rattle.record_bytes.proofs.write.put_labels.Statement.{statement}
@@ -14,7 +14,7 @@ use Rattle.record_bytes.proofs.write.put_labels.Tie as tie
 
 abbrev Inv-loop : tie.InvT-loop
 Inv-loop out₀ list i₀ out i =
-    (i ≤ 64) × (length out ≡ length out₀) × (out ≡ stored out₀ labelsAt (joined i (λ k. labelBytes (getD list k absent))))
+    (i ≤ 64) × (length out ≡ length out₀) × (out ≡ stored out₀ labelsAt (joined i (λ k. packedLabel (getD list k absent))))
 
 abbrev μ-loop : tie.MeasureT-loop
 μ-loop out₀ list i₀ out i = 64 - i

@@ -4,13 +4,13 @@ use mathlib.Core.Path.{_≡_, refl}
 use mathlib.Core.Bool.{false}
 use borrow.Author.Needs.{needs}
 use native.Mathlib.Omega.{arith}
-use Rattle.rules.specs.Labels.{placeOf, listed, bytesFrom}
+use Rattle.rules.specs.Labels.{labelStart, listed, bytesFrom}
 use Rattle.rules.proofs.Labels.{place-first, place-next, place-inside, listed-next, listed-stop, listed-end}
 use Rattle.rules.proofs.file_labels.is_listed.Statement.{statement}
 use Rattle.rules.proofs.file_labels.is_listed.Tie as tie
 
 abbrev Inv-loop : tie.InvT-loop
-Inv-loop file n at from end p₀ m₀ p m = (m ≤ n) × (p ≡ placeOf file m) × (listed file m (bytesFrom file at) ≡ false)
+Inv-loop file n at from end p₀ m₀ p m = (m ≤ n) × (p ≡ labelStart file m) × (listed file m (bytesFrom file at) ≡ false)
 
 abbrev μ-loop : tie.MeasureT-loop
 μ-loop file n at from end p₀ m₀ p m = n - m

@@ -3,13 +3,13 @@ use Prim.Native.Nat.{_-_, _≤_}
 use mathlib.Core.Path.{_≡_}
 use borrow.Author.Needs.{needs}
 use native.Mathlib.Omega.{arith}
-use Rattle.rules.specs.Labels.{placeOf}
+use Rattle.rules.specs.Labels.{labelStart}
 use Rattle.rules.proofs.Labels.{place-first, place-next, place-end, label-room}
 use Rattle.rules.proofs.file_labels.label_place.Statement.{statement}
 use Rattle.rules.proofs.file_labels.label_place.Tie as tie
 
 abbrev Inv-loop : tie.InvT-loop
-Inv-loop file n p₀ i₀ p i = (i ≤ n) × (p ≡ placeOf file i)
+Inv-loop file n p₀ i₀ p i = (i ≤ n) × (p ≡ labelStart file i)
 
 abbrev μ-loop : tie.MeasureT-loop
 μ-loop file n p₀ i₀ p i = n - i

@@ -7,7 +7,7 @@ use borrow.Author.Needs.{needs}
 use lib.ListN.{length, drop}
 use Rattle.lists.proofs.Lists.{unmapped}
 use Rattle.trace.specs.Steps.{held}
-use Rattle.tallies.specs.Tally.{finishedRuns}
+use Rattle.trace.specs.Orderly.{finishedRuns}
 use Rattle.tallies.proofs.Tallies.{count-open, count-finished, count-all}
 use Rattle.tallies.proofs.counts.finished_count.Statement.{statement}
 use Rattle.tallies.proofs.counts.finished_count.Tie as tie

@@ -1,0 +1,4 @@
+pub mod Numbers
+pub mod NewLabel
+pub mod AfterMet
+pub mod Spoken

@@ -1,0 +1,2 @@
+pub mod MetAfter
+pub mod Spoken

@@ -1,0 +1,66 @@
+-- Answers as numbers, for programs in other languages: "For an answer that is an enum, a definition gives this paper's number and
+-- values for each case of the enum." One form for all: a refusal is 65,536 times its number, and whatever else is answered (a verdict,
+-- a count of lines, a line's number, a length, a set, a relation) is below 65,536.
+use Prim.Native.Nat.{ℕ, _+_, _*_, _/_, _%_, _≤_}
+use mathlib.Core.Path.{_≡_}
+use Rattle.relations.specs.declared.Composed.{Composed}
+use Rattle.relations.specs.declared.Composed.the-variants as Composed
+use Rattle.relations.specs.declared.Related.{Related}
+use Rattle.relations.specs.declared.Related.the-variants as Related
+use Rattle.reading.specs.declared.Ending.{Ending}
+use Rattle.reading.specs.declared.Ending.the-variants.{Read, Refused}
+use Rattle.reading.specs.declared.LogRead.{LogRead}
+use Rattle.single.specs.declared.Outcome.{Outcome}
+use Rattle.single.specs.declared.Outcome.the-variants as Outcome
+use Rattle.report.specs.declared.Reported.{Reported}
+use Rattle.report.specs.declared.Reported.the-variants as Reported
+
+-- ── refusals ──
+abbrev pub refusal : ℕ → ℕ
+refusal n = n * 65536
+
+-- how an answer is read: its refusal, 0 for none, and its value
+abbrev pub refusalIn : ℕ → ℕ
+refusalIn n = n / 65536
+
+abbrev pub valueIn : ℕ → ℕ
+valueIn n = n % 65536
+
+-- ── sets of relations ──
+-- "a set, 0 to 63"
+abbrev pub setNumber : Composed → ℕ
+setNumber (Composed.Set c) = c
+setNumber (Composed.Refused n) = refusal n
+
+-- ── two runs ──
+-- "their one relation by its number"
+abbrev pub relationNumber : Related → ℕ
+relationNumber (Related.Relation n) = n
+relationNumber (Related.Refused n) = refusal n
+
+-- ── one line ──
+-- "1 holds, 0 fails"
+abbrev pub outcomeNumber : Outcome → ℕ
+outcomeNumber Outcome.Holds = 1
+outcomeNumber Outcome.Fails = 0
+outcomeNumber (Outcome.Refused n) = refusal n
+
+-- ── a whole log ──
+-- how many lines are taken of a log that is read to its end. "The whole-log call adds the line number": that of the refused line, 0
+-- where no line is to blame
+abbrev pub endingNumber : Ending → ℕ → ℕ
+endingNumber Read lines = lines
+endingNumber (Refused n l) lines = refusal n + l
+
+abbrev pub logNumber : LogRead → ℕ
+logNumber a = endingNumber (a .ending) (a .state .lines .0)
+
+-- ── a report ──
+-- its length
+abbrev pub reportNumber : Reported → ℕ
+reportNumber (Reported.Length n) = n
+reportNumber (Reported.Refused c) = refusal c
+
+-- no report is longer than the shortest buffer that is taken
+abbrev pub ReportFits : Reported → Type 0
+ReportFits a = (n : ℕ) → a ≡ Reported.Length n → n ≤ 2048

@@ -1,0 +1,14 @@
+pub mod Written
+pub mod Paths
+pub mod OneTree
+pub mod NodeFormulas
+pub mod BoundMet
+pub mod NestedMet
+pub mod Counted
+pub mod TableMet
+pub mod LayoutLaws
+pub mod ReadParts
+pub mod BytesMet
+pub mod RuleRefused
+pub mod RuleMet
+pub mod Stands

@@ -1,3 +1,0 @@
-pub mod Log
-pub mod Written
-pub mod Repeated

@@ -1,0 +1,126 @@
+-- "the first 8,192 bytes decide every answer": accepted lines fill at most 5,248 bytes, and the next line is looked for in 40 bytes
+-- after them. So at each place that the reading reaches, the log and its first 8,192 bytes show the same line, the same refusal or
+-- the same end.
+use Prim.Native.Nat.{ℕ, zero, suc, _+_, _-_, _<_, _≤_}
+use mathlib.Core.Path.{_≡_, refl, ap, sym, _∙_, subst}
+use mathlib.Core.Bool.{cond, _||_}
+use mathlib.Core.List.{List, [], _∷_, _++_}
+use native.Mathlib.Omega.{arith}
+use lib.Dec.{eqb, ltb}
+use lib.ListN.{length, take, drop, set, length-take}
+use lib.Seq.{take-add, take-take, take-nil, drop-nil}
+use borrow.Author.Tests.{lt-ltb, le-ltb}
+use Rattle.lists.proofs.Cases.{either-lt}
+use Rattle.lines.specs.Event.{faulty}
+use Rattle.lines.specs.Line.{eventOf}
+use Rattle.lines.specs.Log.{linesOf, scan, nextLine}
+use Rattle.lines.specs.declared.Next.{Next}
+use Rattle.lines.specs.declared.Next.the-variants as Next
+use Rattle.lines.proofs.Log.{Handed, line-is-handed-out, done-means-no-lines, Spoilt, refused-line-is-faulty}
+use Rattle.trace.specs.Trace.{Trace, noTrace, Accepted}
+use Rattle.trace.proofs.Grown.{taken-grows, no-bytes}
+use Rattle.trace.proofs.Size.{accepted-short}
+use Rattle.pairs.specs.Grid.{workSize}
+use Rattle.pairs.specs.Pairs.{workOf}
+use Rattle.rules.specs.declared.Rule.{Rule}
+use Rattle.rules.specs.Rules.{ruleOf, formulaOf}
+use Rattle.logic.specs.Verdict.{verdictByte, verdictOf}
+use Rattle.reading.specs.declared.Ending.the-variants.{Refused}
+use Rattle.single.specs.Line.{withRule}
+use Rattle.reading.specs.Reading.{ended}
+use Rattle.whole_log.specs.Log.{notRead, linesFrom, logOf}
+use Rattle.whole_log.specs.Repeated.{Result}
+use Rattle.reading.specs.Turns.{lineBetween}
+use Rattle.trace.proofs.Taken.{by-answer, line-faulty}
+use Rattle.whole_log.proofs.Lines.{from-taken, from-refused}
+
+-- ── what is looked at ──
+drop-take : (p m : ℕ) (l : List ℕ) → drop p (take m l) ≡ take (m - p) (drop p l)
+drop-take zero m l = let z : m ≡ m - 0 = omega arith in ap (λ (k : ℕ). take k l) z
+drop-take (suc p) zero l = let z : 0 ≡ 0 - suc p = omega arith in drop-nil (suc p) ∙ ap (λ (k : ℕ). take k (drop (suc p) l)) z
+drop-take (suc p) (suc m) [] = sym (take-nil (suc m - suc p))
+drop-take (suc p) (suc m) (b ∷ l) = let z : m - p ≡ suc m - suc p = omega arith in drop-take p m l ∙ ap (λ (k : ℕ). take k (drop p l)) z
+
+-- a scan of n bytes looks at no more
+scan-cut : (n start at m : ℕ) (s : List ℕ) → n ≤ m → scan n start at (take m s) ≡ scan n start at s
+scan-cut zero start at m s h = refl
+scan-cut (suc n) start at zero s h = absurd (omega arith)
+scan-cut (suc n) start at (suc m) [] h = refl
+scan-cut (suc n) start at (suc m) (b ∷ s) h =
+    ap (λ (r : Next). cond (eqb b 10) (Next.Line start (at + 1)) r) (scan-cut n start (at + 1) m s (omega arith))
+
+module _ (log : List ℕ) where
+  abbrev cut : List ℕ
+  cut = take 8192 log
+
+  -- before the cut the log goes on as its front does
+  drop-cut : (p : ℕ) → drop p cut ≡ take (8192 - p) (drop p log)
+  drop-cut p = drop-take p 8192 log
+
+  next-cut : (p : ℕ) → p ≤ 5248 → nextLine cut p ≡ nextLine log p
+  unfolding nextLine
+  next-cut p h =
+      let d : drop p cut ≡ take (8192 - p) (drop p log) = drop-cut p in
+      let l = length-take 8192 log in
+      either-lt p (length log)
+      (λ k.
+      let k′ : p < length cut = omega arith in
+      simp (lt-ltb p (length log) k, lt-ltb p (length cut) k′) (ap (scan 40 p p) d ∙ scan-cut 40 p p (8192 - p) (drop p log) (omega arith)))
+      (λ k.
+      let k′ : length cut ≤ p = omega arith in
+      simp (le-ltb p (length log) k, le-ltb p (length cut) k′))
+
+  line-cut : (p e : ℕ) → e ≤ length cut → lineBetween cut p e ≡ lineBetween log p e
+  line-cut p e h =
+      let l = length-take 8192 log in
+      ap (take (e - p)) (drop-cut p) ∙ take-take (e - p) (8192 - p) (drop p log) (omega arith)
+
+  module _ (file : List ℕ) (x : Rule) (w : List ℕ) where
+    -- a first line that is refused with 11
+    faulty-from : (t : Trace) (out : List ℕ) (ls : List (List ℕ)) (l : List ℕ) (later : List (List ℕ)) → ls ≡ l ∷ later → eventOf l ≡ faulty 11
+        → linesFrom file x t ls w out ≡ (ended t (Refused 11 (t .lines + 1)), workOf (t .runs) w, out)
+    faulty-from t out ls l later e says =
+        ap (λ (k : List (List ℕ)). linesFrom file x t k w out) e ∙ from-refused file x t l later w out 11 (line-faulty t l 11 says)
+
+    -- from a place that is reached, both logs give the same; n places at most are left
+    same-from : (n p : ℕ) (t : Trace) (out : List ℕ) → length log - p < n → p ≤ length log → Accepted (take p log) t
+        → linesFrom file x t (linesOf (drop p log)) w out ≡ linesFrom file x t (linesOf (drop p cut)) w out
+    same-from zero p t out m h a = absurd (omega arith)
+    same-from (suc n) p t out m h a =
+        let low : p ≤ 5248 = omega (arith, accepted-short (take p log) t a, length-take p log) in
+        go low (nextLine log p) refl (λ e u i j k. same-from n e u (set out (t .lines) (verdictByte (verdictOf u (formulaOf file x)))) i j k)
+      where
+        go : p ≤ 5248 → (r : Next) → nextLine log p ≡ r
+            → ((e : ℕ) (u : Trace) → length log - e < n → e ≤ length log → Accepted (take e log) u
+            → linesFrom file x u (linesOf (drop e log)) w (set out (t .lines) (verdictByte (verdictOf u (formulaOf file x))))
+            ≡ linesFrom file x u (linesOf (drop e cut)) w (set out (t .lines) (verdictByte (verdictOf u (formulaOf file x)))))
+            → linesFrom file x t (linesOf (drop p log)) w out ≡ linesFrom file x t (linesOf (drop p cut)) w out
+        go low (Next.Line s e) q rest =
+            let f : Handed log p s e = line-is-handed-out log p s e q in
+            let g : Handed cut p s e = line-is-handed-out cut p s e (next-cut p low ∙ q) in
+            let l : List ℕ = lineBetween log p e in
+            let b : linesOf (drop p cut) ≡ l ∷ linesOf (drop e cut) = g .lines ∙ ap (λ (k : List ℕ). k ∷ linesOf (drop e cut)) (line-cut p e (g .within)) in
+            let both : (ls : List (List ℕ)) (i : List (List ℕ)) → ls ≡ i → linesFrom file x t ls w out ≡ linesFrom file x t i w out = λ ls i e. ap (λ (k : List (List ℕ)). linesFrom file x t k w out) e in
+            both _ _ (f .lines)
+            ∙ (by-answer t l
+            (λ u k.
+            let grown : take e log ≡ take p log ++ l = (let c : e ≡ p + (e - p) = omega (arith, f .moves) in ap (λ (i : ℕ). take i log) c ∙ take-add p (e - p) log) in
+            from-taken file x t l (linesOf (drop e log)) w out u k
+            ∙ (rest e u (omega (arith, f .moves, f .within)) (f .within) (subst (λ (i : List ℕ). Accepted i u) (sym grown) (taken-grows (take p log) t a l u k))
+            ∙ sym (from-taken file x t l (linesOf (drop e cut)) w out u k)))
+            (λ c k. from-refused file x t l (linesOf (drop e log)) w out c k ∙ sym (from-refused file x t l (linesOf (drop e cut)) w out c k))
+            ∙ both _ _ (sym b))
+        go low (Next.Refused c) q rest =
+            let f : Spoilt log p c = refused-line-is-faulty log p c q in
+            let g : Spoilt cut p c = refused-line-is-faulty cut p c (next-cut p low ∙ q) in
+            faulty-from t out (linesOf (drop p log)) (f .line) (f .later) (f .lines) (f .says)
+            ∙ sym (faulty-from t out (linesOf (drop p cut)) (g .line) (g .later) (g .lines) (g .says))
+        go low Next.Done q rest =
+            ap (λ (k : List (List ℕ)). linesFrom file x t k w out) (done-means-no-lines log p q ∙ sym (done-means-no-lines cut p (next-cut p low ∙ q)))
+
+-- THE LAW: nothing past the first 8,192 bytes of a log changes an answer.
+pub first-bytes-decide : (file log w out : List ℕ) → logOf file log w out ≡ logOf file (take 8192 log) w out
+unfolding logOf
+first-bytes-decide file log w out =
+    ap (λ (f : Rule → Result). cond (ltb (length w) workSize || ltb (length out) 256) (notRead 20, w, out) (withRule (ruleOf file) (λ n. (notRead n, w, out)) f))
+    (λ i x. same-from log file x w (suc (length log)) 0 noTrace out (omega arith) (omega arith) no-bytes i)

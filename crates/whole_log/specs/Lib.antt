@@ -1,0 +1,4 @@
+pub mod Log
+pub mod Written
+pub mod Repeated
+pub mod Cases

@@ -4,32 +4,64 @@
 #include "scene_log.h"
 
 static const uint8_t rule[] = {'R', 'U', 'L', 1, 0, 0, 3, 5, 0, 1, 3, 1, 0, 3, 0, 1};
-static const char *const lines[] = {"B 1 EVENING\n", "E 1\n", "B 2 TEST\n", "E 2\n"};
+static const char *const lines[] = {"B 1 EVENING\n", "E 1\n", "B 2 TEST\n", "E 2\n", "E 2\n"};
 static uint8_t work[SCENE_LOG_WORK_BYTES], verdicts[SCENE_LOG_VERDICT_BYTES], text[SCENE_LOG_TEXT_BYTES];
 static uint8_t record[SCENE_LOG_RECORD_BYTES];
+static uint32_t tally[SCENE_LOG_TALLY_COUNTS];
 
-/* Prints the report of the whole log. */
-static int whole_log(void) {
-    static const char log[] = "B 1 EVENING\nE 1\nB 2 TEST\nE 2\n";
-    size_t n = scene_log_report(rule, sizeof rule, (const uint8_t *)log, strlen(log), work, sizeof work, verdicts, sizeof verdicts, text, sizeof text);
-    return fwrite(text, 1, n, stdout) == n;
+/* Prints a refusal. */
+static void say_refused(const char *what, uint32_t refusal) {
+    printf("%s is refused with %u: %s\n", what, (unsigned)refusal, scene_log_refusal_text(refusal));
 }
 
-/* Takes the lines one by one, as they come, and then says how the first run relates to the second. */
+/* Prints the report of the whole log. */
+static int report_log(void) {
+    static const char log[] = "B 1 EVENING\nE 1\nB 2 TEST\nE 2\n";
+    scene_log_answer answer = scene_log_report(rule, sizeof rule, (const uint8_t *)log, strlen(log), work, sizeof work,
+                                               verdicts, sizeof verdicts, text, sizeof text);
+    size_t length = SCENE_LOG_VALUE(answer);
+    return !SCENE_LOG_REFUSED(answer) && fwrite(text, 1, length, stdout) == length;
+}
+
+/* Takes the lines one by one, as they come, with a tally; the last one is refused. */
 static int line_by_line(void) {
     size_t i;
-    if (scene_log_start(record, sizeof record, work, sizeof work) != 0)
+    scene_log_answer answer = scene_log_start(record, sizeof record, work, sizeof work);
+    if (SCENE_LOG_REFUSED(answer))
         return 0;
     for (i = 0; i < sizeof lines / sizeof *lines; i++) {
-        uint32_t answer = scene_log_check_line(rule, sizeof rule, record, sizeof record, work, sizeof work, (const uint8_t *)lines[i], strlen(lines[i]));
-        if (SCENE_LOG_REFUSAL(answer) != 0)
-            return 0;
-        puts(answer == 1 ? "holds" : "fails");
+        scene_log_verdict verdict =
+            scene_log_check_line_tallied(rule, sizeof rule, record, sizeof record, tally, SCENE_LOG_TALLY_COUNTS, work, sizeof work,
+                                         (const uint8_t *)lines[i], strlen(lines[i]));
+        if (SCENE_LOG_REFUSED(verdict))
+            say_refused("the line", SCENE_LOG_REFUSAL(verdict));
+        else
+            puts(SCENE_LOG_HOLDS(verdict) ? "holds" : "fails");
     }
-    printf("relation %u\n", (unsigned)scene_log_relate(record, sizeof record, 0, 1));
+    printf("%u lines, %u of them fail\n", (unsigned)tally[SCENE_LOG_COUNT_LINES], (unsigned)tally[SCENE_LOG_COUNT_FAILING]);
+    return 1;
+}
+
+/* Reads a log up to a refused line, says how its two runs relate, and goes on with another line. */
+static int record_of_log(void) {
+    scene_log_verdict verdict;
+    static const char log[] = "B 1\nB 2\nE 1\nE 2\nE 3\n";
+    scene_log_answer answer = scene_log_check_log_record(rule, sizeof rule, (const uint8_t *)log, strlen(log),
+                                                         record, sizeof record, work, sizeof work,
+                                                         verdicts, sizeof verdicts);
+    if (SCENE_LOG_REFUSED(answer)) {
+        printf("%u lines are taken; line %u: ", (unsigned)SCENE_LOG_LINES(answer), (unsigned)SCENE_LOG_REFUSED_LINE(answer));
+        say_refused("it", SCENE_LOG_REFUSAL(answer));
+    }
+    answer = scene_log_relate(record, sizeof record, 0, 1);
+    if (SCENE_LOG_REFUSED(answer))
+        return 0;
+    puts(SCENE_LOG_VALUE(answer) == SCENE_LOG_OVERLAPS ? "the first overlaps the second" : "they relate in another way");
+    verdict = scene_log_check_line(rule, sizeof rule, record, sizeof record, work, sizeof work, (const uint8_t *)"B 3\n", 4);
+    puts(SCENE_LOG_FAILS(verdict) ? "fails" : "holds or is refused");
     return 1;
 }
 
 int main(void) {
-    return whole_log() && line_by_line() ? 0 : 1;
+    return report_log() && line_by_line() && record_of_log() ? 0 : 1;
 }

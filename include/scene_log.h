@@ -1,11 +1,23 @@
-/* The proved scene-log check for C, on numbers and byte buffers.
+/* The proved scene-log check for C, on numbers and byte buffers. Link with -lscene_log; x86-64 Linux.
  *
- * Link with target/staticlib/libscene_log.a, which `rt staticlib scene_log` makes, for x86-64 Linux.
+ * Proved, for every input: each call answers the number that its definition gives, leaves every buffer as that says, stays
+ * inside its buffers and ends; and a verdict is what the logic says of the lines read (crates/scene_log/specs).
+ * Assumed: the prover and the compiler (LLVM), memcpy and memset of the C library, and that the caller passes what is asked
+ * for here. This header itself is tested, not proved.
  *
- * A buffer is passed as a pointer and a length. A pointer is never NULL, not even with length 0. Buffers that are written
- * overlap no other buffer of the same call. Every call takes any bytes; a refusal has its number in docs/REFUSALS.md.
- * The calls keep nothing between them, so threads may use them at the same time, each with buffers of its own.
- * A call takes at most about 200 KB of stack, which depends on how deep the rule is.
+ * A buffer is a pointer and a length: of bytes, for a tally of counts. rule, log, line and bytes may be NULL with length 0; the
+ * other buffers are never NULL. A buffer that is written overlaps no other buffer of the same call. Every call takes any
+ * contents and any length. The calls keep nothing between them, so threads may use them at the same time, each with buffers
+ * of its own. A call takes less than SCENE_LOG_STACK_BYTES of stack.
+ *
+ * An answer is read with the macros below and never used as a truth value. It is a struct so that the compiler refuses that. The
+ * verdicts of a whole log are its verdict bytes, 1 or 0, of which SCENE_LOG_LINES(answer) are written.
+ *
+ *     scene_log_verdict answer = scene_log_check_line(rule, rule_length, record, sizeof record, work, sizeof work, line, length);
+ *     if (SCENE_LOG_REFUSED(answer))
+ *         printf("refused: %s\n", scene_log_refusal_text(SCENE_LOG_REFUSAL(answer)));
+ *     else
+ *         puts(SCENE_LOG_HOLDS(answer) ? "holds" : "fails");
  */
 #ifndef SCENE_LOG_H
 #define SCENE_LOG_H
@@ -13,59 +25,206 @@
 #include <stddef.h>
 #include <stdint.h>
 
-#ifdef __cplusplus
-extern "C" {
-#endif
+#define SCENE_LOG_VERSION "0.9.0"
 
-/* The bytes that each lent buffer has at least. */
+/* The length that each lent buffer has at least. */
 #define SCENE_LOG_WORK_BYTES 16384
 #define SCENE_LOG_VERDICT_BYTES 256
 #define SCENE_LOG_TEXT_BYTES 2048
 #define SCENE_LOG_RECORD_BYTES 2628
+#define SCENE_LOG_TALLY_COUNTS 5
 
-/* The whole output of the check for a rule file and a log, written to the start of text: its length. It is 0 where work,
- * verdicts or text is too short, and then nothing is written; a report is never empty. The output ends in LF and has no
- * byte 0 at its end. */
-size_t scene_log_report(const uint8_t *rule, size_t rule_length, const uint8_t *log, size_t log_length,
-                        uint8_t *work, size_t work_length, uint8_t *verdicts, size_t verdicts_length,
-                        uint8_t *text, size_t text_length);
+/* The stack that a thread has left where it makes a call. */
+#define SCENE_LOG_STACK_BYTES 262144
+
+/* An answer: 65,536 times a refusal, or a value below 65,536. */
+typedef struct {
+    uint32_t number;
+} scene_log_answer;
+
+/* Right for the answer of every call: whether it is refused, the number of the refusal (0 for none), and the value. */
+#define SCENE_LOG_REFUSED(answer) ((answer).number > 0xffffu)
+#define SCENE_LOG_REFUSAL(answer) ((answer).number >> 16)
+#define SCENE_LOG_VALUE(answer) ((answer).number & 0xffffu)
+
+/* The answer on one line. It has a type of its own, so that no other answer is taken for a verdict. */
+typedef struct {
+    uint32_t number;
+} scene_log_verdict;
+
+/* Whether the rule holds with the line, or fails. Neither is so for a refused line. */
+#define SCENE_LOG_HOLDS(verdict) scene_log_holds(verdict)
+#define SCENE_LOG_FAILS(verdict) scene_log_fails(verdict)
+
+static inline int scene_log_holds(scene_log_verdict verdict) {
+    return verdict.number == 1u;
+}
+
+static inline int scene_log_fails(scene_log_verdict verdict) {
+    return verdict.number == 0u;
+}
+
+/* Of a whole log: the line that is refused (0 where none is to blame), and how many lines were taken. */
+#define SCENE_LOG_REFUSED_LINE(answer) scene_log_refused_line(answer)
+#define SCENE_LOG_LINES(answer) scene_log_lines(answer)
+
+static inline uint32_t scene_log_refused_line(scene_log_answer answer) {
+    return SCENE_LOG_REFUSED(answer) ? SCENE_LOG_VALUE(answer) : 0;
+}
+
+static inline uint32_t scene_log_lines(scene_log_answer answer) {
+    uint32_t line = scene_log_refused_line(answer);
+    return line != 0 ? line - 1 : SCENE_LOG_VALUE(answer);
+}
+
+/* The refusals. */
+enum scene_log_refusal {
+    SCENE_LOG_RULE_ENDS_EARLY = 1,
+    SCENE_LOG_RULE_MARK = 2,
+    SCENE_LOG_RULE_VERSION = 3,
+    SCENE_LOG_RULE_COUNT = 4,
+    SCENE_LOG_RULE_LABEL = 5,
+    SCENE_LOG_RULE_NODE = 6,
+    SCENE_LOG_RULE_TOO_LONG = 7,
+    SCENE_LOG_RULE_NOT_A_TREE = 8,
+    SCENE_LOG_RULE_UNBOUND = 9,
+    SCENE_LOG_RULE_TOO_DEEP = 10,
+    SCENE_LOG_LINE_FORM = 11,
+    SCENE_LOG_LINE_ID = 12,
+    SCENE_LOG_LINE_LABEL = 13,
+    SCENE_LOG_NO_SET = 14,
+    SCENE_LOG_BEGUN_BEFORE = 15,
+    SCENE_LOG_NEVER_BEGUN = 16,
+    SCENE_LOG_ENDED_BEFORE = 17,
+    SCENE_LOG_TOO_MANY_RUNS = 18,
+    SCENE_LOG_TOO_MANY_LABELS = 19,
+    SCENE_LOG_SHORT_BUFFER = 20,
+    SCENE_LOG_NO_RECORD = 21,
+    SCENE_LOG_NO_FINISHED_RUN = 22,
+    SCENE_LOG_SAME_RUN = 23,
+    SCENE_LOG_NO_TALLY = 24
+};
+
+/* The relations between two different finished runs; a set is a sum of them, 0 to 63. */
+enum scene_log_relation {
+    SCENE_LOG_BEFORE = 1,
+    SCENE_LOG_AFTER = 2,
+    SCENE_LOG_OVERLAPS = 4,
+    SCENE_LOG_OVERLAPPED_BY = 8,
+    SCENE_LOG_INCLUDES = 16,
+    SCENE_LOG_DURING = 32
+};
+
+/* The counts of a tally, by their places. */
+enum scene_log_count {
+    SCENE_LOG_COUNT_LINES = 0,
+    SCENE_LOG_COUNT_BEGUN = 1,
+    SCENE_LOG_COUNT_FINISHED = 2,
+    SCENE_LOG_COUNT_OPEN = 3,
+    SCENE_LOG_COUNT_FAILING = 4
+};
+
+/* What a refusal says, as docs/REFUSALS.md has it; "no refusal" for a number that is none. */
+static inline const char *scene_log_refusal_text(uint32_t refusal) {
+    static const char *const texts[] = {
+        "no refusal",
+        "the rule file ends before the next part is whole",
+        "the rule file's mark is not RUL",
+        "the rule file's version is not 1",
+        "a count in the rule file is outside its range: 0 to 16 labels, 1 to 64 nodes",
+        "a label in the rule file has a wrong length or a wrong byte, or is listed twice",
+        "a node's kind or one of its fields is outside its range",
+        "bytes follow the last node of the rule file",
+        "a node other than the root is not named exactly once",
+        "a variable is used outside every \"some\" that binds it",
+        "five \"some\" nodes lie one inside another",
+        "the line has neither of the two forms, or its LF is not among its first 40 bytes",
+        "the id is not in 1 to 65535",
+        "the label has a wrong byte or more than 24 bytes",
+        "a relation set is above 63",
+        "a begin line has an id that has begun already",
+        "an end line has an id that never began",
+        "an end line has an id whose run has ended already",
+        "the line would begin a 129th run",
+        "the line would bring a 65th label",
+        "a lent buffer is shorter than stated",
+        "no accepted lines leave this record, or the pair bytes are not that record's",
+        "a run number has no finished run",
+        "both numbers name the same finished run",
+        "the tally's counts are not the record's, or its failing lines exceed its lines",
+    };
+    return texts[refusal < sizeof texts / sizeof *texts ? refusal : 0];
+}
+
+/* An answer that is not read, or NULL where it is not taken, is a warning. */
+#ifdef __GNUC__
+#define SCENE_LOG_CALL __attribute__((warn_unused_result))
+#define SCENE_LOG_NOT_NULL(...) __attribute__((nonnull(__VA_ARGS__)))
+#else
+#define SCENE_LOG_CALL
+#define SCENE_LOG_NOT_NULL(...)
+#endif
+
+#ifdef __cplusplus
+extern "C" {
+#endif
+
+/* The whole output of the check for a rule file and a log, written to the start of text. Value: its length. It ends in LF and
+ * has no byte 0 at its end. Refused with 20 alone, and then nothing is written; what the rule and the lines meet is printed. */
+SCENE_LOG_CALL SCENE_LOG_NOT_NULL(5, 7, 9)
+scene_log_answer scene_log_report(const uint8_t *rule, size_t rule_length, const uint8_t *log, size_t log_length,
+                                  uint8_t *work, size_t work_length, uint8_t *verdicts, size_t verdicts_length,
+                                  uint8_t *text, size_t text_length);
 
 /* Reads a whole log with a rule file. For each line that is taken a verdict byte is written, 1 holds, 0 fails; the other
- * verdict bytes stay as they are. The answer is the number of lines taken, and 65,536 times the refusal, which is 0 where
- * the log was read to its end. With 20 or 1 to 10 no line was read and no buffer was written. With 11 to 13 or 15 to 19 the
- * line after those taken is the refused one. */
-uint32_t scene_log_check_log(const uint8_t *rule, size_t rule_length, const uint8_t *log, size_t log_length,
-                             uint8_t *work, size_t work_length, uint8_t *verdicts, size_t verdicts_length);
+ * verdict bytes stay as they are. Value: how many lines were taken, which is all of them; or, with a refusal, the number of the
+ * refused line, and the lines before it were taken. With 20 or 1 to 10 no line was read, the value is 0 and no buffer was
+ * written. SCENE_LOG_LINES and SCENE_LOG_REFUSED_LINE read it. */
+SCENE_LOG_CALL SCENE_LOG_NOT_NULL(5, 7)
+scene_log_answer scene_log_check_log(const uint8_t *rule, size_t rule_length, const uint8_t *log, size_t log_length,
+                                     uint8_t *work, size_t work_length, uint8_t *verdicts, size_t verdicts_length);
 
-#define SCENE_LOG_LINES(answer) ((answer) & 0xffffu)
-#define SCENE_LOG_REFUSAL(answer) ((answer) >> 16)
+/* The same, and the record of the lines that were taken is written to the front of record: with its work area it is ready for
+ * the next line. */
+SCENE_LOG_CALL SCENE_LOG_NOT_NULL(5, 7, 9)
+scene_log_answer scene_log_check_log_record(const uint8_t *rule, size_t rule_length, const uint8_t *log, size_t log_length,
+                                            uint8_t *record, size_t record_length, uint8_t *work, size_t work_length,
+                                            uint8_t *verdicts, size_t verdicts_length);
 
 /* Starts a record of no lines, for a log that is read line by line: its bytes are written to the front of record, and the
- * first 16,384 bytes of work are cleared. The answer is 0, or 20 where one of the two is too short; then nothing is written.
+ * first 16,384 bytes of work are cleared. Refused with 20, and then nothing is written. A tally starts at zeros.
  *
  * The record's bytes: the number of lines, low byte first; the numbers of runs and of labels, a byte each; from byte 4 on,
  * for each of 128 runs, 7 bytes: id, begin line and end line (0 while open), low byte first, and the label's number (0 for
- * none); from byte 900 on, for each of 64 labels, its length and its 24 bytes; from byte 2,500 on the 128 places.
- * SCENE_LOG_REFUSAL is for the calls on lines: here the answer is 0 or 20 itself. */
-uint32_t scene_log_start(uint8_t *record, size_t record_length, uint8_t *work, size_t work_length);
+ * none); from byte 900 on, for each of 64 labels, its length and its 24 bytes; from byte 2,500 on the 128 places. */
+SCENE_LOG_CALL SCENE_LOG_NOT_NULL(1, 3)
+scene_log_answer scene_log_start(uint8_t *record, size_t record_length, uint8_t *work, size_t work_length);
 
-/* Takes one line, with its LF, on a record and its work area, as scene_log_start or the line before left them. The answer is
- * 1 if the rule holds with this line, 0 if it fails, or 65,536 times the refusal. A refused call leaves both buffers as they
- * were; after any other they are ready for the next line. 21 says that no lines leave this record and these pair bytes. */
-uint32_t scene_log_check_line(const uint8_t *rule, size_t rule_length, uint8_t *record, size_t record_length,
-                              uint8_t *work, size_t work_length, const uint8_t *line, size_t line_length);
+/* Takes one line, with its LF, on a record and its work area, as scene_log_start or the line before left them: it holds, fails
+ * or is refused. A refused call leaves both buffers as they were; after any other they are ready for the next line. 21 says that
+ * no lines leave this record and these pair bytes. */
+SCENE_LOG_CALL SCENE_LOG_NOT_NULL(3, 5)
+scene_log_verdict scene_log_check_line(const uint8_t *rule, size_t rule_length, uint8_t *record, size_t record_length,
+                                       uint8_t *work, size_t work_length, const uint8_t *line, size_t line_length);
 
-/* The relation of run first to run second of a record, by its number below, or 256 and the refusal: 20, 21, 22 or 23. Runs
- * are numbered from 0 in the order of their begin lines. */
-uint32_t scene_log_relate(const uint8_t *record, size_t record_length, uint32_t first, uint32_t second);
+/* The same with a tally of five counts, in the order of enum scene_log_count, which are updated where they stand. 24 says that
+ * the first four are not the record's, or that more lines fail than there are. A refused call leaves the tally as it was. */
+SCENE_LOG_CALL SCENE_LOG_NOT_NULL(3, 5, 7)
+scene_log_verdict scene_log_check_line_tallied(const uint8_t *rule, size_t rule_length, uint8_t *record, size_t record_length,
+                                               uint32_t *tally, size_t tally_length, uint8_t *work, size_t work_length,
+                                               const uint8_t *line, size_t line_length);
 
-/* Sets of relations between two finished runs: before 1, after 2, overlaps 4, overlapped by 8, includes 16, during 32, and
- * their sums, 0 to 63. The answer is a set, or 270 (256 and the refusal 14) where a set is above 63. */
-uint32_t scene_log_compose(uint32_t first, uint32_t second);
-uint32_t scene_log_converse(uint32_t set);
+/* Value: the relation of run first to run second of a record, one of enum scene_log_relation. Refused with 20, 21, 22 or 23.
+ * Runs are numbered from 0 in the order of their begin lines. */
+SCENE_LOG_CALL SCENE_LOG_NOT_NULL(1)
+scene_log_answer scene_log_relate(const uint8_t *record, size_t record_length, uint32_t first, uint32_t second);
+
+/* Value: the composition of two sets of relations; the converses of a set's members. Refused with 14 where a set is above 63. */
+SCENE_LOG_CALL scene_log_answer scene_log_compose(uint32_t first, uint32_t second);
+SCENE_LOG_CALL scene_log_answer scene_log_converse(uint32_t set);
 
 /* The 32-bit FNV-1a hash of the bytes. */
-uint32_t scene_log_fnv1a(const uint8_t *bytes, size_t length);
+SCENE_LOG_CALL uint32_t scene_log_fnv1a(const uint8_t *bytes, size_t length);
 
 #ifdef __cplusplus
 }

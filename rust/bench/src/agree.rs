@@ -11,9 +11,9 @@ use crate::{plain, published, LABELS};
 use generate::case;
 use generate::random::Random;
 use generate::rules::legal_rule;
-use proved::{check_log, VERDICT_BYTES, WORK_BYTES};
 use reference::listing::rule_file;
 use reference::rule::read_rule;
+use scene_log::{check_log, LogRefused, VERDICT_BYTES, WORK_BYTES};
 use std::collections::BTreeSet;
 
 const PLAIN: (&str, Baseline) = ("plain", plain::verdicts);
@@ -22,8 +22,8 @@ const PUBLISHED: (&str, Baseline) = ("published", published::verdicts);
 /// The verdicts of the accepted lines by the proved check; the rule is legal.
 fn proved_verdicts(rule: &[u8], log: &[u8]) -> Vec<bool> {
     let (mut work, mut verdicts) = (vec![0; WORK_BYTES], vec![0; VERDICT_BYTES]);
-    let answer = check_log(rule, log, &mut work, &mut verdicts);
-    verdicts[..usize::from(answer.lines)].iter().map(|verdict| *verdict == 1).collect()
+    let lines = check_log(rule, log, &mut work, &mut verdicts).unwrap_or_else(LogRefused::lines);
+    verdicts[..usize::from(lines)].iter().map(|verdict| *verdict == 1).collect()
 }
 
 /// All three on a rule and the accepted lines of a log; answers the verdicts.

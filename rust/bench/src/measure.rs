@@ -2,8 +2,8 @@
 
 use crate::logs::Log;
 use crate::trace::Trace;
-use proved::{check_line, check_log, Check, VERDICT_BYTES, WORK_BYTES};
 use reference::rule::Rule;
+use scene_log::{check_line, check_log, Check, VERDICT_BYTES, WORK_BYTES};
 use std::time::{Duration, Instant};
 
 /// A call is repeated for at least this long, and at least so often unless that takes too long.
@@ -46,7 +46,7 @@ pub fn whole_log(rule: &[u8], log: &Log) -> (f64, Vec<bool>) {
 fn whole_log_times(rule: &[u8], log: &Log, buffers: &mut (Vec<u8>, Vec<u8>)) -> Vec<f64> {
     repeats(buffers, |_| {}, |(work, verdicts)| {
         let answer = check_log(rule, &log.bytes, work, verdicts);
-        assert_eq!((usize::from(answer.lines), answer.refusal), (2 * log.runs, None));
+        assert_eq!(answer.map(usize::from), Ok(2 * log.runs));
     })
 }
 

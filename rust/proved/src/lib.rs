@@ -2,9 +2,43 @@
 //!
 //! Each function passes its slices on as a pointer and a length, and turns the number that comes back into a Rust type.
 //! Nothing is checked here: the library takes any input, and refuses what it does not take.
+//!
+//! A log at once, with the rule "some run is before another":
+//!
+//! ```
+//! use scene_log::{report, TEXT_BYTES, VERDICT_BYTES, WORK_BYTES};
+//!
+//! let rule = b"RUL\x01\x00\x00\x03\x05\x00\x01\x03\x01\x00\x03\x00\x01";
+//! let log = b"B 1 EVENING\nE 1\nB 2 TEST\nE 2\n";
+//! let (mut work, mut verdicts, mut text) = ([0; WORK_BYTES], [0; VERDICT_BYTES], [0; TEXT_BYTES]);
+//! let length = report(rule, log, &mut work, &mut verdicts, &mut text)?;
+//! assert_eq!(&text[..length], b"1 F\n2 F\n3 F\n4 H\nT 4 2 2 0 3\n");
+//! # Ok::<(), scene_log::Refusal>(())
+//! ```
+//!
+//! Line by line, as the lines come:
+//!
+//! ```
+//! use scene_log::{Check, Relation, Verdict};
+//!
+//! let rule = b"RUL\x01\x00\x00\x03\x05\x00\x01\x03\x01\x00\x03\x00\x01";
+//! let mut check = Check::default();
+//! for line in ["B 1\n", "E 1\n", "B 2\n"] {
+//!     assert_eq!(check.line(rule, line.as_bytes())?, Verdict::Fails);
+//! }
+//! assert_eq!(check.line(rule, b"E 2\n")?, Verdict::Holds);
+//! assert_eq!(check.relate(0, 1)?, Relation::Before);
+//! # Ok::<(), scene_log::Refusal>(())
+//! ```
 
-/// A number on the paper's list of refusals.
-pub type Refusal = u8;
+mod c;
+mod refusal;
+mod relation;
+
+pub use refusal::{LogRefused, Refusal};
+pub use relation::{Relation, Relations};
+
+use std::fmt;
 
 /// The bytes that each lent buffer has at least.
 pub const WORK_BYTES: usize = 16384;
@@ -12,67 +46,77 @@ pub const VERDICT_BYTES: usize = 256;
 pub const TEXT_BYTES: usize = 2048;
 pub const RECORD_BYTES: usize = 2628;
 
-mod c {
-    extern "C" {
-        pub fn scene_log_report(
-            rule: *const u8,
-            rule_length: usize,
-            log: *const u8,
-            log_length: usize,
-            work: *mut u8,
-            work_length: usize,
-            verdicts: *mut u8,
-            verdicts_length: usize,
-            text: *mut u8,
-            text_length: usize,
-        ) -> usize;
-        pub fn scene_log_check_log(
-            rule: *const u8,
-            rule_length: usize,
-            log: *const u8,
-            log_length: usize,
-            work: *mut u8,
-            work_length: usize,
-            verdicts: *mut u8,
-            verdicts_length: usize,
-        ) -> u32;
-        pub fn scene_log_start(record: *mut u8, record_length: usize, work: *mut u8, work_length: usize) -> u32;
-        pub fn scene_log_check_line(
-            rule: *const u8,
-            rule_length: usize,
-            record: *mut u8,
-            record_length: usize,
-            work: *mut u8,
-            work_length: usize,
-            line: *const u8,
-            line_length: usize,
-        ) -> u32;
-        pub fn scene_log_relate(record: *const u8, record_length: usize, first: u32, second: u32) -> u32;
-        pub fn scene_log_compose(first: u32, second: u32) -> u32;
-        pub fn scene_log_converse(set: u32) -> u32;
-        pub fn scene_log_fnv1a(bytes: *const u8, length: usize) -> u32;
+/// Whether the rule is true of the lines up to a line.
+#[derive(Clone, Copy, PartialEq, Eq, PartialOrd, Ord, Hash, Debug)]
+pub enum Verdict {
+    Fails,
+    Holds,
+}
+
+impl Verdict {
+    pub fn holds(self) -> bool {
+        self == Verdict::Holds
+    }
+
+    /// The verdict of a byte in a verdict buffer, 1 holds, 0 fails.
+    pub fn from_byte(byte: u8) -> Option<Verdict> {
+        match byte {
+            0 => Some(Verdict::Fails),
+            1 => Some(Verdict::Holds),
+            _ => None,
+        }
     }
 }
 
-/// How the reading of a whole log ended: how many lines were taken, and the refusal if there is one.
-#[derive(Clone, Copy, PartialEq, Eq, Debug)]
-pub struct LogChecked {
-    pub lines: u16,
-    pub refusal: Option<Refusal>,
-}
-
-impl LogChecked {
-    /// The line that was refused: the one after the lines taken. A refused rule or a short buffer is no line's fault: 0.
-    pub fn refused_line(self) -> Option<u16> {
-        self.refusal.map(|number| if (11..=19).contains(&number) { self.lines + 1 } else { 0 })
+impl fmt::Display for Verdict {
+    fn fmt(&self, out: &mut fmt::Formatter) -> fmt::Result {
+        out.write_str(if self.holds() { "holds" } else { "fails" })
     }
 }
 
-/// The whole output of the check for a rule file and a log, at the start of the text: its length. None where a
-/// buffer is too short; then nothing is written.
-pub fn report(rule: &[u8], log: &[u8], work: &mut [u8], verdicts: &mut [u8], text: &mut [u8]) -> Option<usize> {
+/// Counts over accepted lines. It starts at zeros, which are the default.
+#[derive(Clone, Copy, PartialEq, Eq, Hash, Debug, Default)]
+pub struct Tally {
+    pub lines: u32,
+    pub begun: u32,
+    pub finished: u32,
+    pub open: u32,
+    pub failing: u32,
+}
+
+/// The value of an answer, which is below 65,536; or the refusal, of which the answer is 65,536 times the number, and the value
+/// beside it.
+fn value_of(answer: u32) -> Result<u16, (Refusal, u16)> {
+    let value = (answer & 0xffff) as u16;
+    match answer >> 16 {
+        0 => Ok(value),
+        number => Err((Refusal::from_number(number as u8).expect("a number on the list"), value)),
+    }
+}
+
+fn small_value(answer: u32) -> Result<u16, Refusal> {
+    value_of(answer).map_err(|(refusal, _)| refusal)
+}
+
+fn verdict_of(answer: u32) -> Result<Verdict, Refusal> {
+    small_value(answer).map(|value| if value == 1 { Verdict::Holds } else { Verdict::Fails })
+}
+
+fn lines_of(answer: u32) -> Result<u16, LogRefused> {
+    value_of(answer).map_err(|(refusal, line)| LogRefused { refusal, line })
+}
+
+/// The whole output of the check for a rule file and a log, at the start of the text: its length. Refused with
+/// [`Refusal::ShortBuffer`] alone; then nothing is written.
+pub fn report(
+    rule: &[u8],
+    log: &[u8],
+    work: &mut [u8],
+    verdicts: &mut [u8],
+    text: &mut [u8],
+) -> Result<usize, Refusal> {
     // Safe: each pointer comes with the length of its own slice, and `&mut` slices do not overlap others.
-    let length = unsafe {
+    small_value(unsafe {
         c::scene_log_report(
             rule.as_ptr(),
             rule.len(),
@@ -85,15 +129,27 @@ pub fn report(rule: &[u8], log: &[u8], work: &mut [u8], verdicts: &mut [u8], tex
             text.as_mut_ptr(),
             text.len(),
         )
-    };
-    // A report is never empty.
-    (length != 0).then_some(length)
+    })
+    .map(usize::from)
 }
 
-/// Reads a whole log with a rule file. A verdict byte is written for each line that is taken.
-pub fn check_log(rule: &[u8], log: &[u8], work: &mut [u8], verdicts: &mut [u8]) -> LogChecked {
+/// Reads a whole log with a rule file: how many lines it has, or where it is refused and why. A verdict byte is written for
+/// each line that is taken, 1 holds, 0 fails.
+///
+/// ```
+/// use scene_log::{check_log, Refusal, VERDICT_BYTES, WORK_BYTES};
+///
+/// let rule = b"RUL\x01\x00\x00\x02\x08\x00\x00\x03\x00\x00";
+/// let (mut work, mut verdicts) = ([0; WORK_BYTES], [0; VERDICT_BYTES]);
+/// assert_eq!(check_log(rule, b"B 1 TEST\nE 1\n", &mut work, &mut verdicts)?, 2);
+/// assert_eq!(verdicts[..2], [0, 1]);
+/// let refused = check_log(rule, b"B 1\nB 1\n", &mut work, &mut verdicts).unwrap_err();
+/// assert_eq!((refused.line, refused.refusal), (2, Refusal::BegunBefore));
+/// # Ok::<(), scene_log::LogRefused>(())
+/// ```
+pub fn check_log(rule: &[u8], log: &[u8], work: &mut [u8], verdicts: &mut [u8]) -> Result<u16, LogRefused> {
     // Safe: as above.
-    let answer = unsafe {
+    lines_of(unsafe {
         c::scene_log_check_log(
             rule.as_ptr(),
             rule.len(),
@@ -104,28 +160,45 @@ pub fn check_log(rule: &[u8], log: &[u8], work: &mut [u8], verdicts: &mut [u8]) 
             verdicts.as_mut_ptr(),
             verdicts.len(),
         )
-    };
-    let number = (answer >> 16) as u8;
-    LogChecked { lines: answer as u16, refusal: (number != 0).then_some(number) }
+    })
 }
 
-/// Starts a record of no lines at the front of `record` and clears the pair bytes of the work area, or refuses with 20 and
-/// writes nothing.
+/// The same, with the record of the lines that were taken at the front of `record`.
+pub fn check_log_record(
+    rule: &[u8],
+    log: &[u8],
+    record: &mut [u8],
+    work: &mut [u8],
+    verdicts: &mut [u8],
+) -> Result<u16, LogRefused> {
+    // Safe: as above.
+    lines_of(unsafe {
+        c::scene_log_check_log_record(
+            rule.as_ptr(),
+            rule.len(),
+            log.as_ptr(),
+            log.len(),
+            record.as_mut_ptr(),
+            record.len(),
+            work.as_mut_ptr(),
+            work.len(),
+            verdicts.as_mut_ptr(),
+            verdicts.len(),
+        )
+    })
+}
+
+/// Starts a record of no lines at the front of `record` and clears the pair bytes of the work area, or refuses with
+/// [`Refusal::ShortBuffer`] and writes nothing.
 pub fn start(record: &mut [u8], work: &mut [u8]) -> Result<(), Refusal> {
     // Safe: as above.
-    let answer = unsafe { c::scene_log_start(record.as_mut_ptr(), record.len(), work.as_mut_ptr(), work.len()) };
-    if answer == 0 {
-        Ok(())
-    } else {
-        Err(answer as u8)
-    }
+    small_value(unsafe { c::scene_log_start(record.as_mut_ptr(), record.len(), work.as_mut_ptr(), work.len()) }).map(|_| ())
 }
 
-/// Takes one line, with its LF, on a record and its work area: whether the rule holds with it, or the refusal, which leaves
-/// both as they were.
-pub fn check_line(rule: &[u8], record: &mut [u8], work: &mut [u8], line: &[u8]) -> Result<bool, Refusal> {
+/// Takes one line, with its LF, on a record and its work area: the verdict, or the refusal, which leaves both as they were.
+pub fn check_line(rule: &[u8], record: &mut [u8], work: &mut [u8], line: &[u8]) -> Result<Verdict, Refusal> {
     // Safe: as above.
-    let answer = unsafe {
+    verdict_of(unsafe {
         c::scene_log_check_line(
             rule.as_ptr(),
             rule.len(),
@@ -136,17 +209,43 @@ pub fn check_line(rule: &[u8], record: &mut [u8], work: &mut [u8], line: &[u8]) 
             line.as_ptr(),
             line.len(),
         )
-    };
-    match answer >> 16 {
-        0 => Ok(answer == 1),
-        number => Err(number as u8),
-    }
+    })
 }
 
-/// The relation of the first run of a record to the second, by its number, or 20, 21, 22 or 23.
-pub fn relate(record: &[u8], first: u32, second: u32) -> Result<u8, Refusal> {
+/// The same with a tally, which is updated where the line is taken.
+pub fn check_line_tallied(
+    rule: &[u8],
+    record: &mut [u8],
+    tally: &mut Tally,
+    work: &mut [u8],
+    line: &[u8],
+) -> Result<Verdict, Refusal> {
+    let mut counts = [tally.lines, tally.begun, tally.finished, tally.open, tally.failing];
+    // Safe: as above.
+    let verdict = verdict_of(unsafe {
+        c::scene_log_check_line_tallied(
+            rule.as_ptr(),
+            rule.len(),
+            record.as_mut_ptr(),
+            record.len(),
+            counts.as_mut_ptr(),
+            counts.len(),
+            work.as_mut_ptr(),
+            work.len(),
+            line.as_ptr(),
+            line.len(),
+        )
+    });
+    let [lines, begun, finished, open, failing] = counts;
+    *tally = Tally { lines, begun, finished, open, failing };
+    verdict
+}
+
+/// The relation of the first run of a record to the second.
+pub fn relate(record: &[u8], first: u32, second: u32) -> Result<Relation, Refusal> {
     // Safe: the pointer comes with the length of its slice.
-    small_number(unsafe { c::scene_log_relate(record.as_ptr(), record.len(), first, second) })
+    let number = small_value(unsafe { c::scene_log_relate(record.as_ptr(), record.len(), first, second) })?;
+    Ok(Relation::from_number(number as u8).expect("a relation"))
 }
 
 /// A log that is checked line by line: the record of the lines taken so far, and its work area.
@@ -154,6 +253,12 @@ pub fn relate(record: &[u8], first: u32, second: u32) -> Result<u8, Refusal> {
 pub struct Check {
     pub record: Box<[u8; RECORD_BYTES]>,
     pub work: Box<[u8; WORK_BYTES]>,
+}
+
+impl Default for Check {
+    fn default() -> Check {
+        Check::start()
+    }
 }
 
 impl Check {
@@ -164,39 +269,82 @@ impl Check {
         check
     }
 
-    /// Takes one line, with its LF: whether the rule holds with it, or the refusal, which changes nothing.
-    pub fn line(&mut self, rule: &[u8], line: &[u8]) -> Result<bool, Refusal> {
+    /// The check after the lines of a log that are taken, ready for the next line; and how many they are, or where the log is
+    /// refused and why.
+    ///
+    /// ```
+    /// use scene_log::{Check, Verdict};
+    ///
+    /// let rule = b"RUL\x01\x00\x00\x02\x08\x00\x00\x03\x00\x00";
+    /// let (mut check, lines) = Check::after(rule, b"B 1 TEST\n");
+    /// assert_eq!(lines, Ok(1));
+    /// assert_eq!(check.line(rule, b"E 1\n"), Ok(Verdict::Holds));
+    /// ```
+    pub fn after(rule: &[u8], log: &[u8]) -> (Check, Result<u16, LogRefused>) {
+        let mut check = Check::start();
+        let lines = check_log_record(rule, log, &mut *check.record, &mut *check.work, &mut [0; VERDICT_BYTES]);
+        (check, lines)
+    }
+
+    /// Takes one line, with its LF: the verdict, or the refusal, which changes nothing.
+    pub fn line(&mut self, rule: &[u8], line: &[u8]) -> Result<Verdict, Refusal> {
         check_line(rule, &mut *self.record, &mut *self.work, line)
     }
 
-    /// The relation of the first of two runs to the second, by its number, or the refusal.
-    pub fn relate(&self, first: u32, second: u32) -> Result<u8, Refusal> {
+    /// The same with a tally, which is updated where the line is taken.
+    ///
+    /// ```
+    /// use scene_log::{Check, Tally};
+    ///
+    /// let rule = b"RUL\x01\x00\x00\x02\x08\x00\x00\x03\x00\x00";
+    /// let (mut check, mut tally) = (Check::default(), Tally::default());
+    /// check.line_tallied(rule, &mut tally, b"B 1 TEST\n")?;
+    /// assert_eq!(tally, Tally { lines: 1, begun: 1, open: 1, failing: 1, ..Tally::default() });
+    /// # Ok::<(), scene_log::Refusal>(())
+    /// ```
+    pub fn line_tallied(&mut self, rule: &[u8], tally: &mut Tally, line: &[u8]) -> Result<Verdict, Refusal> {
+        check_line_tallied(rule, &mut *self.record, tally, &mut *self.work, line)
+    }
+
+    /// The relation of the first of two runs to the second, or the refusal. Runs are numbered from 0.
+    pub fn relate(&self, first: u32, second: u32) -> Result<Relation, Refusal> {
         relate(&*self.record, first, second)
     }
 }
 
-/// The composition of two sets of relations, or 14.
-pub fn compose(first: u32, second: u32) -> Result<u8, Refusal> {
+/// The composition of two sets of relations, or [`Refusal::NoSet`].
+///
+/// ```
+/// use scene_log::{compose, Refusal, Relation};
+///
+/// let composed = compose(Relation::Overlaps.into(), Relation::Overlaps.into())?;
+/// assert!(composed.members().eq([Relation::Before, Relation::Overlaps]));
+/// assert_eq!(compose(64, 0), Err(Refusal::NoSet));
+/// # Ok::<(), Refusal>(())
+/// ```
+pub fn compose(first: u32, second: u32) -> Result<Relations, Refusal> {
     // Safe: numbers only.
-    small_number(unsafe { c::scene_log_compose(first, second) })
+    small_value(unsafe { c::scene_log_compose(first, second) }).map(|set| Relations(set as u8))
 }
 
-/// The converses of a set's members, or 14.
-pub fn converse(set: u32) -> Result<u8, Refusal> {
+/// The converses of a set's members, or [`Refusal::NoSet`].
+///
+/// ```
+/// use scene_log::{converse, Relation, Relations};
+///
+/// assert_eq!(converse(Relation::Includes.into())?, Relations::from(Relation::During));
+/// # Ok::<(), scene_log::Refusal>(())
+/// ```
+pub fn converse(set: u32) -> Result<Relations, Refusal> {
     // Safe: numbers only.
-    small_number(unsafe { c::scene_log_converse(set) })
-}
-
-/// A set or a relation as it is, a refusal with 256 added.
-fn small_number(answer: u32) -> Result<u8, Refusal> {
-    if answer < 256 {
-        Ok(answer as u8)
-    } else {
-        Err((answer - 256) as u8)
-    }
+    small_value(unsafe { c::scene_log_converse(set) }).map(|set| Relations(set as u8))
 }
 
 /// The 32-bit FNV-1a hash of the bytes.
+///
+/// ```
+/// assert_eq!(scene_log::fnv1a(b"foobar"), 3214735720);
+/// ```
 pub fn fnv1a(bytes: &[u8]) -> u32 {
     // Safe: the pointer comes with the length of its slice.
     unsafe { c::scene_log_fnv1a(bytes.as_ptr(), bytes.len()) }

@@ -6,6 +6,7 @@ use generate::random::Random;
 use generate::{case, Case};
 use reference::calls::{check_log, LogAnswer};
 use reference::report::report;
+use scene_log::{LogRefused, Refusal, Relations};
 use std::collections::BTreeMap;
 use std::fs;
 use std::io::{Read, Write};
@@ -49,9 +50,10 @@ fn left_by_reference(case: &Case) -> LogLeft {
 
 fn left_by_library(case: &Case) -> LogLeft {
     let (mut work, mut verdicts) = (case.log_work.clone(), case.verdicts.clone());
-    let answer = proved::check_log(&case.rule, &case.log, &mut work, &mut verdicts);
-    let refusal = answer.refusal.map(|number| (number, u64::from(answer.refused_line().unwrap())));
-    LogLeft { lines: answer.lines.into(), refusal, work, verdicts }
+    let answer = scene_log::check_log(&case.rule, &case.log, &mut work, &mut verdicts);
+    let lines = answer.unwrap_or_else(LogRefused::lines).into();
+    let refusal = answer.err().map(|refused| (refused.refusal.number(), refused.line.into()));
+    LogLeft { lines, refusal, work, verdicts }
 }
 
 /// What the report call answers, and what it leaves in its buffers.
@@ -66,16 +68,16 @@ struct ReportLeft {
 /// A text buffer, now and then too short; filled with anything.
 fn text_buffer(random: &mut Random) -> Vec<u8> {
     let length = match random.below(40) {
-        0 => *random.pick(&[0, 1, 1024, proved::TEXT_BYTES - 1]),
-        1..=10 => proved::TEXT_BYTES + random.below(100),
-        _ => proved::TEXT_BYTES,
+        0 => *random.pick(&[0, 1, 1024, scene_log::TEXT_BYTES - 1]),
+        1..=10 => scene_log::TEXT_BYTES + random.below(100),
+        _ => scene_log::TEXT_BYTES,
     };
     vec![random.byte(); length]
 }
 
 /// The reference has no report call of its own: what it leaves follows from its report and its whole-log call.
 fn expected_report(case: &Case, text: &[u8], printed: &[u8], log: &LogLeft) -> ReportLeft {
-    let is_short = log.refusal == Some((20, 0)) || text.len() < proved::TEXT_BYTES;
+    let is_short = log.refusal == Some((20, 0)) || text.len() < scene_log::TEXT_BYTES;
     if is_short {
         let (work, verdicts) = (case.log_work.clone(), case.verdicts.clone());
         return ReportLeft { length: None, work, verdicts, text: text.to_vec() };
@@ -87,7 +89,8 @@ fn expected_report(case: &Case, text: &[u8], printed: &[u8], log: &LogLeft) -> R
 
 fn report_by_library(case: &Case, text: &[u8]) -> ReportLeft {
     let (mut work, mut verdicts, mut text) = (case.log_work.clone(), case.verdicts.clone(), text.to_vec());
-    let length = proved::report(&case.rule, &case.log, &mut work, &mut verdicts, &mut text);
+    let answer = scene_log::report(&case.rule, &case.log, &mut work, &mut verdicts, &mut text);
+    let length = answer.map_err(|refusal| assert_eq!(refusal, Refusal::ShortBuffer)).ok();
     ReportLeft { length, work, verdicts, text }
 }
 
@@ -224,19 +227,25 @@ fn library_program_and_reference_agree_on_generated_cases() {
     assert!(seen.full >= 100);
 }
 
+/// A set or a refusal by its number.
+fn numbered(answer: Result<Relations, Refusal>) -> Result<u8, u8> {
+    answer.map(Relations::number).map_err(Refusal::number)
+}
+
 #[test]
 fn library_and_reference_agree_on_all_sets_of_relations() {
     let above = [64, 65, 127, 128, 255, 256, 257, 319, 320, 65536, 1 << 31, u32::MAX];
     let sets: Vec<u32> = (0..64).chain(above).collect();
     for &first in &sets {
-        assert_eq!(proved::converse(first), reference::calls::converse(first.into()), "{first}");
+        let expected = reference::calls::converse(first.into());
+        assert_eq!(numbered(scene_log::converse(first)), expected, "{first}");
         for &second in &sets {
             let expected = reference::calls::compose(first.into(), second.into());
-            assert_eq!(proved::compose(first, second), expected, "{first} {second}");
+            assert_eq!(numbered(scene_log::compose(first, second)), expected, "{first} {second}");
         }
     }
-    assert_eq!(proved::compose(64, 0), Err(14));
-    assert_eq!(proved::converse(256), Err(14));
+    assert_eq!(scene_log::compose(64, 0), Err(Refusal::NoSet));
+    assert_eq!(scene_log::converse(256), Err(Refusal::NoSet));
 }
 
 #[test]
@@ -245,7 +254,7 @@ fn library_and_reference_agree_on_hashes() {
     for _ in 0..20_000 {
         let length = random.below(40);
         let bytes = random.bytes(length);
-        assert_eq!(proved::fnv1a(&bytes), reference::record::fnv1a(&bytes), "{bytes:?}");
+        assert_eq!(scene_log::fnv1a(&bytes), reference::record::fnv1a(&bytes), "{bytes:?}");
     }
 }
 
@@ -286,7 +295,7 @@ fn library_and_reference_agree_on_the_properties_of_the_paper() {
             let listed = if all { &labels } else { &labels[labels.len() - 1..] };
             let log = full_log(random, listed, runs);
             let (mut work, mut verdicts, mut text) = ([0; 16384], [0; 256], [0; 2048]);
-            let length = proved::report(&rule, &log, &mut work, &mut verdicts, &mut text).unwrap();
+            let length = scene_log::report(&rule, &log, &mut work, &mut verdicts, &mut text).unwrap();
             assert!(text[..length] == report(&rule, &log), "{name}, log {}", log.escape_ascii());
         }
     }
@@ -303,9 +312,9 @@ fn a_rule_file_that_cannot_be_opened_counts_as_no_bytes() {
     let folder = empty_folder("no_rule");
     let (_, log) = p1();
     assert_eq!(printed_by_program(&folder, &log, 100), b"0 R1\n");
-    // A folder in its place can be opened, and reading it fails.
+    // A folder in its place can be opened, and reading it fails: then no report is printed.
     fs::create_dir(folder.join("rule.rul")).unwrap();
-    assert_eq!(printed_by_program(&folder, &log, 100), b"0 R1\n");
+    assert_eq!(printed_by_program(&folder, &log, 100), b"");
     fs::remove_dir_all(&folder).unwrap();
 }
 
@@ -357,7 +366,7 @@ fn the_lessons_hold_for_library_and_program() {
         }
         let read = |name: &str| fs::read(folder.join(name)).unwrap();
         let (mut work, mut verdicts, mut text) = ([7; 16384], [7; 256], [7; 2048]);
-        let length = proved::report(&read("rule.rul"), &read("log"), &mut work, &mut verdicts, &mut text).unwrap();
+        let length = scene_log::report(&read("rule.rul"), &read("log"), &mut work, &mut verdicts, &mut text).unwrap();
         assert!(text[..length] == read("expected"), "{}", folder.display());
         assert!(printed_by_program(&folder, &read("log"), 5) == read("expected"), "{}", folder.display());
         lessons += 1;

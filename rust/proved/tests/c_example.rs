@@ -1,5 +1,6 @@
 //! The C header declares what the archive has: the example beside it is compiled, linked and run.
 
+use scene_log::Refusal;
 use std::path::Path;
 use std::process::Command;
 
@@ -20,9 +21,25 @@ fn the_c_example_prints_what_was_worked_out() {
     let run = Command::new(&program).output().unwrap();
     std::fs::remove_file(&program).unwrap();
     assert!(run.status.success());
-    // Run 1 is before run 2, which is finished at line 4. Up to there one run at most is finished, and none is before another.
-    let report = "1 F\n2 F\n3 F\n4 H\nT 4 2 2 0 3\n";
-    // The same verdicts line by line, and before is 1.
-    let one_by_one = "fails\nfails\nfails\nholds\nrelation 1\n";
-    assert_eq!(String::from_utf8(run.stdout).unwrap(), report.to_string() + one_by_one);
+    // Run 1 is before run 2, which is finished at line 4; up to there one run at most is finished, and none is before another. The
+    // same line by line; then the end of run 2 comes a second time. Of the other log four lines are taken: its run 1 begins first
+    // and ends while run 2 is on, so none is before the other.
+    let expected = std::fs::read_to_string(root.join("include/example.expected")).unwrap();
+    assert_eq!(String::from_utf8(run.stdout).unwrap(), expected);
+}
+
+/// The sentences of the refusals and the version, from the header and from this crate.
+#[test]
+fn the_header_says_what_this_crate_says() {
+    let root = Path::new(env!("CARGO_MANIFEST_DIR")).join("../..");
+    let header = std::fs::read_to_string(root.join("include/scene_log.h")).unwrap();
+    let version = format!("#define SCENE_LOG_VERSION \"{}\"", env!("CARGO_PKG_VERSION"));
+    assert!(header.lines().any(|line| line == version), "{version}");
+    let (_, texts) = header.split_once("\"no refusal\",\n").unwrap();
+    let (texts, _) = texts.split_once("};").unwrap();
+    let plain = |line: &str| line.trim().replace("\\\"", "'");
+    let in_header: Vec<String> = texts.lines().map(plain).filter(|line| !line.is_empty()).collect();
+    let refusals = (1..=24).map(|number| Refusal::from_number(number).unwrap());
+    let here: Vec<String> = refusals.map(|refusal| format!("\"{}\",", refusal.to_string().replace('"', "'"))).collect();
+    assert_eq!(in_header, here);
 }

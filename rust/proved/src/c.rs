@@ -1,0 +1,65 @@
+//! The functions of the archive, as `include/scene_log.h` has them; an answer is its number here.
+
+extern "C" {
+    pub fn scene_log_report(
+        rule: *const u8,
+        rule_length: usize,
+        log: *const u8,
+        log_length: usize,
+        work: *mut u8,
+        work_length: usize,
+        verdicts: *mut u8,
+        verdicts_length: usize,
+        text: *mut u8,
+        text_length: usize,
+    ) -> u32;
+    pub fn scene_log_check_log(
+        rule: *const u8,
+        rule_length: usize,
+        log: *const u8,
+        log_length: usize,
+        work: *mut u8,
+        work_length: usize,
+        verdicts: *mut u8,
+        verdicts_length: usize,
+    ) -> u32;
+    pub fn scene_log_check_log_record(
+        rule: *const u8,
+        rule_length: usize,
+        log: *const u8,
+        log_length: usize,
+        record: *mut u8,
+        record_length: usize,
+        work: *mut u8,
+        work_length: usize,
+        verdicts: *mut u8,
+        verdicts_length: usize,
+    ) -> u32;
+    pub fn scene_log_start(record: *mut u8, record_length: usize, work: *mut u8, work_length: usize) -> u32;
+    pub fn scene_log_check_line(
+        rule: *const u8,
+        rule_length: usize,
+        record: *mut u8,
+        record_length: usize,
+        work: *mut u8,
+        work_length: usize,
+        line: *const u8,
+        line_length: usize,
+    ) -> u32;
+    pub fn scene_log_check_line_tallied(
+        rule: *const u8,
+        rule_length: usize,
+        record: *mut u8,
+        record_length: usize,
+        tally: *mut u32,
+        tally_length: usize,
+        work: *mut u8,
+        work_length: usize,
+        line: *const u8,
+        line_length: usize,
+    ) -> u32;
+    pub fn scene_log_relate(record: *const u8, record_length: usize, first: u32, second: u32) -> u32;
+    pub fn scene_log_compose(first: u32, second: u32) -> u32;
+    pub fn scene_log_converse(set: u32) -> u32;
+    pub fn scene_log_fnv1a(bytes: *const u8, length: usize) -> u32;
+}

@@ -1,0 +1,186 @@
+/* Tries the installed library: NULL with length 0, buffers that are too short, answers of every kind, and the stack that a call
+ * takes, on a thread that has no more than the header promises. Prints the most stack taken. Exits with 1 at the first fault. */
+#define _GNU_SOURCE
+#include <pthread.h>
+#include <stdio.h>
+#include <stdlib.h>
+#include <string.h>
+#include <sys/mman.h>
+#include <scene_log.h>
+
+#define EXPECT(fact) ((fact) ? (void)0 : (printf("line %d: not so: %s\n", __LINE__, #fact), exit(1)))
+#define BYTES(text) (const uint8_t *)(text), sizeof(text) - 1
+#define OF(buffer) buffer, sizeof buffer
+#define GUARD_BYTES 65536
+#define UNUSED 0xa5
+
+static const uint8_t rule[] = {'R', 'U', 'L', 1, 0, 0, 3, 5, 0, 1, 3, 1, 0, 3, 0, 1};
+static uint8_t work[SCENE_LOG_WORK_BYTES], verdicts[SCENE_LOG_VERDICT_BYTES], text[SCENE_LOG_TEXT_BYTES];
+static uint8_t record[SCENE_LOG_RECORD_BYTES];
+static uint32_t tally[SCENE_LOG_TALLY_COUNTS];
+
+static void try_answers(void) {
+    scene_log_answer answer;
+    scene_log_verdict verdict;
+    uint32_t number;
+    EXPECT(SCENE_LOG_VALUE(scene_log_report(OF(rule), NULL, 0, OF(work), OF(verdicts), OF(text))) == 12);
+    EXPECT(memcmp(text, "T 0 0 0 0 0\n", 12) == 0);
+    EXPECT(SCENE_LOG_VALUE(scene_log_report(NULL, 0, NULL, 0, OF(work), OF(verdicts), OF(text))) == 5);
+    EXPECT(memcmp(text, "0 R1\n", 5) == 0);
+    EXPECT(SCENE_LOG_REFUSAL(scene_log_report(OF(rule), NULL, 0, OF(work), OF(verdicts), text, 2047)) == SCENE_LOG_SHORT_BUFFER);
+    EXPECT(scene_log_fnv1a(NULL, 0) == 2166136261u);
+    EXPECT(SCENE_LOG_REFUSAL(scene_log_start(record, 2627, OF(work))) == SCENE_LOG_SHORT_BUFFER);
+    EXPECT(!SCENE_LOG_REFUSED(scene_log_start(OF(record), OF(work))));
+    verdict = scene_log_check_line(OF(rule), OF(record), OF(work), NULL, 0);
+    EXPECT(SCENE_LOG_REFUSED(verdict) && SCENE_LOG_REFUSAL(verdict) == SCENE_LOG_LINE_FORM);
+    EXPECT(!SCENE_LOG_HOLDS(verdict) && !SCENE_LOG_FAILS(verdict));
+    verdict = scene_log_check_line(NULL, 0, OF(record), OF(work), NULL, 0);
+    EXPECT(SCENE_LOG_REFUSAL(verdict) == SCENE_LOG_RULE_ENDS_EARLY);
+    verdict = scene_log_check_line_tallied(OF(rule), OF(record), tally, 4, OF(work), BYTES("B 1\n"));
+    EXPECT(SCENE_LOG_REFUSAL(verdict) == SCENE_LOG_SHORT_BUFFER);
+    tally[SCENE_LOG_COUNT_LINES] = 1;
+    verdict = scene_log_check_line_tallied(OF(rule), OF(record), tally, 5, OF(work), BYTES("B 1\n"));
+    EXPECT(SCENE_LOG_REFUSAL(verdict) == SCENE_LOG_NO_TALLY && tally[SCENE_LOG_COUNT_LINES] == 1);
+    tally[SCENE_LOG_COUNT_LINES] = 0;
+    verdict = scene_log_check_line_tallied(OF(rule), OF(record), tally, 5, OF(work), BYTES("B 1\n"));
+    EXPECT(SCENE_LOG_FAILS(verdict) && tally[SCENE_LOG_COUNT_OPEN] == 1 && tally[SCENE_LOG_COUNT_FAILING] == 1);
+    answer = scene_log_check_log(OF(rule), BYTES("B 1\nE 1\nB 1\n"), OF(work), OF(verdicts));
+    EXPECT(SCENE_LOG_LINES(answer) == 2 && SCENE_LOG_REFUSED_LINE(answer) == 3);
+    EXPECT(SCENE_LOG_REFUSAL(answer) == SCENE_LOG_BEGUN_BEFORE);
+    answer = scene_log_check_log(OF(rule), BYTES("B 1\nE 1\n"), OF(work), OF(verdicts));
+    EXPECT(SCENE_LOG_LINES(answer) == 2 && SCENE_LOG_REFUSED_LINE(answer) == 0 && SCENE_LOG_REFUSAL(answer) == 0);
+    answer = scene_log_check_log(NULL, 0, BYTES("B 1\n"), OF(work), OF(verdicts));
+    EXPECT(SCENE_LOG_LINES(answer) == 0 && SCENE_LOG_REFUSED_LINE(answer) == 0 && SCENE_LOG_REFUSED(answer));
+    EXPECT(SCENE_LOG_VALUE(scene_log_compose(SCENE_LOG_OVERLAPS, SCENE_LOG_OVERLAPS)) == (SCENE_LOG_BEFORE | SCENE_LOG_OVERLAPS));
+    EXPECT(SCENE_LOG_REFUSAL(scene_log_compose(64, 0)) == SCENE_LOG_NO_SET);
+    EXPECT(SCENE_LOG_VALUE(scene_log_converse(SCENE_LOG_INCLUDES)) == SCENE_LOG_DURING);
+    EXPECT(SCENE_LOG_REFUSAL(scene_log_converse(256)) == SCENE_LOG_NO_SET);
+    for (number = 1; number <= 24; number++)
+        EXPECT(strcmp(scene_log_refusal_text(number), scene_log_refusal_text(0)) != 0);
+    EXPECT(scene_log_refusal_text(25) == scene_log_refusal_text(0) && scene_log_refusal_text(65536) == scene_log_refusal_text(0));
+}
+
+/* ---- the stack */
+
+static uint8_t deep[599];
+static size_t deep_length;
+static unsigned nodes;
+
+static unsigned node(unsigned kind, unsigned a, unsigned b) {
+    uint8_t *at = deep + 7 + 3 * nodes;
+    at[0] = (uint8_t)kind, at[1] = (uint8_t)a, at[2] = (uint8_t)b;
+    return nodes++;
+}
+
+/* An atom of variables 0 and 1 inside "some" nodes, with "not"s, or "and"s with another atom, between them: so many inside the
+ * innermost "some", so many in each gap, and the rest of the 64 nodes outside. */
+static void make_rule(unsigned kind, unsigned somes, unsigned inside, unsigned between, int ands) {
+    static const uint8_t head[] = {'R', 'U', 'L', 1, 0, 0};
+    unsigned variable, i, child;
+    nodes = 0;
+    child = node(kind, 0, 1);
+    for (variable = 0; variable <= somes; variable++) {
+        unsigned left = 64 - nodes - (somes - variable), wanted = variable == 0 ? inside : variable < somes ? between : 64;
+        for (i = 0; i < wanted && (ands && variable < 1 ? 2 : 1) <= left; i++) {
+            if (ands && variable < 1) {
+                unsigned atom = node(6, 0, 1);
+                child = node(1, atom, child), left -= 2;
+            } else {
+                child = node(2, child, 0), left -= 1;
+            }
+        }
+        if (variable < somes)
+            child = node(3, somes - 1 - variable, child);
+    }
+    memcpy(deep, head, sizeof head);
+    deep[6] = (uint8_t)nodes;
+    deep_length = 7 + 3 * nodes;
+}
+
+static char logs[2][4096];
+
+static void make_logs(unsigned runs) {
+    unsigned i;
+    char *apart = logs[0], *over = logs[1];
+    for (i = 1; i <= runs; i++)
+        apart += sprintf(apart, "B %u\nE %u\n", i, i);
+    for (i = 1; i <= runs; i++)
+        over += i % 3 == 0 ? sprintf(over, "B %u\nE %u\n", i, i - 2) : sprintf(over, "B %u\n", i);
+    for (i = 1; i <= runs; i++)
+        over += i % 3 == 1 && i + 2 <= runs ? 0 : sprintf(over, "E %u\n", i);
+}
+
+static void judge_logs(void) {
+    unsigned i;
+    for (i = 0; i < 2; i++) {
+        scene_log_answer answer = scene_log_check_log_record(deep, deep_length, (const uint8_t *)logs[i], strlen(logs[i]) - 5,
+                                                             OF(record), OF(work), OF(verdicts));
+        EXPECT(SCENE_LOG_LINES(answer) > 20);
+        answer = scene_log_report(deep, deep_length, (const uint8_t *)logs[i], strlen(logs[i]), OF(work), OF(verdicts), OF(text));
+        EXPECT(!SCENE_LOG_REFUSED(answer));
+    }
+}
+
+static void line_by_line(void) {
+    const char *at = logs[1];
+    EXPECT(!SCENE_LOG_REFUSED(scene_log_start(OF(record), OF(work))));
+    memset(tally, 0, sizeof tally);
+    while (*at != 0) {
+        size_t length = (size_t)(strchr(at, '\n') - at) + 1;
+        scene_log_verdict answer =
+            scene_log_check_line_tallied(deep, deep_length, OF(record), tally, 5, OF(work), (const uint8_t *)at, length);
+        EXPECT(!SCENE_LOG_REFUSED(answer));
+        at += length;
+    }
+    EXPECT(!SCENE_LOG_REFUSED(scene_log_relate(OF(record), 0, 1)));
+}
+
+static void *judge_deep_rules(void *arguments) {
+    static const unsigned counts[] = {0, 1, 2, 20, 61};
+    unsigned somes, inside, between, kind, ands;
+    make_logs(24);
+    for (somes = 2; somes <= 4; somes++)
+        for (inside = 0; inside < 5; inside++)
+            for (between = 0; between < 5; between++)
+                for (kind = 5; kind <= 7; kind++)
+                    for (ands = 0; ands < 2; ands++) {
+                        make_rule(kind, somes, counts[inside], counts[between], (int)ands);
+                        judge_logs();
+                    }
+    /* The rule that takes most: 64 nodes, each inside the other, and a "some" that is the outermost but one. */
+    make_logs(128);
+    make_rule(6, 2, 61, 0, 0);
+    judge_logs();
+    line_by_line();
+    return arguments;
+}
+
+/* How much of a stack has been written, from its end down. */
+static size_t taken(const uint8_t *stack, size_t size) {
+    size_t i = 0;
+    while (i < size && stack[i] == UNUSED)
+        i++;
+    return size - i;
+}
+
+static void try_stack(void) {
+    size_t size = SCENE_LOG_STACK_BYTES;
+    pthread_attr_t attributes;
+    pthread_t thread;
+    uint8_t *stack = mmap(NULL, GUARD_BYTES + size, PROT_READ | PROT_WRITE, MAP_PRIVATE | MAP_ANONYMOUS, -1, 0);
+    EXPECT(stack != MAP_FAILED && mprotect(stack, GUARD_BYTES, PROT_NONE) == 0);
+    stack += GUARD_BYTES;
+    memset(stack, UNUSED, size);
+    EXPECT(pthread_attr_init(&attributes) == 0 && pthread_attr_setstack(&attributes, stack, size) == 0);
+    EXPECT(pthread_create(&thread, &attributes, judge_deep_rules, NULL) == 0 && pthread_join(thread, NULL) == 0);
+    printf("stack: %zu bytes of %zu\n", taken(stack, size), size);
+}
+
+/* With an argument no stack is measured: valgrind does not let the stack of a thread that has ended be read. */
+int main(int count, char **arguments) {
+    (void)arguments;
+    try_answers();
+    if (count == 1)
+        try_stack();
+    return 0;
+}

@@ -18,12 +18,14 @@ use Rattle.single.specs.declared.Outcome.the-variants.{Holds, Fails, Refused}
 use Rattle.single.specs.declared.Checked.{Checked}
 use Rattle.tallies.specs.declared.Tally.{Tally}
 use Rattle.tallies.specs.declared.Tallied.{Tallied}
+use Rattle.output.specs.declared.Written.{Written}
+use Rattle.output.specs.declared.Written.the-variants as Written
 use Rattle.report.specs.declared.Reported.{Reported}
 use Rattle.report.specs.declared.Reported.the-variants as Reported
 use Rattle.record_bytes.specs.declared.PackOutcome.{PackOutcome as Packed}
 use Rattle.record_bytes.specs.Form.{recordSize}
 use Rattle.record_bytes.specs.Calls.{packOf, Packs}
-use Rattle.answer_numbers.specs.Numbers.{setNumber, relationNumber, outcomeNumber, endingNumber, logNumber, reportNumber, ReportFits}
+use Rattle.answer_numbers.specs.Numbers.{setNumber, relationNumber, outcomeNumber, endingNumber, logNumber, reportNumber, ReportFits, writtenNumber, WrittenFits}
 use Rattle.answer_numbers.specs.InBytes.{asByte, recordIn, bytesAfter, lineNumbered, tallyIn, numbersAfter, talliedNumbered, bytesLeft, logKept}
 
 -- ── sets of relations ──
@@ -135,3 +137,13 @@ report-length a n e = sym (ap reportNumber e)
 
 pub refused-report : (a : Reported) (n : ℕ) → a ≡ Reported.Refused n → n * 65536 ≡ reportNumber a
 refused-report a n e = sym (ap reportNumber e)
+
+-- ── a rule from a text, a text from a rule ──
+pub written-fits : (a : Written) → WrittenFits a → (n : ℕ) → a ≡ Written.Length n → n < 4294967296
+written-fits a h n e = omega (arith, h n e)
+
+pub written-length : (a : Written) (n : ℕ) → a ≡ Written.Length n → n ≡ writtenNumber a
+written-length a n e = sym (ap writtenNumber e)
+
+pub refused-written : (a : Written) (n : ℕ) → a ≡ Written.Refused n → n * 65536 ≡ writtenNumber a
+refused-written a n e = sym (ap writtenNumber e)

@@ -12,6 +12,8 @@ use Rattle.reading.specs.declared.Ending.the-variants.{Read, Refused}
 use Rattle.reading.specs.declared.LogRead.{LogRead}
 use Rattle.single.specs.declared.Outcome.{Outcome}
 use Rattle.single.specs.declared.Outcome.the-variants as Outcome
+use Rattle.output.specs.declared.Written.{Written}
+use Rattle.output.specs.declared.Written.the-variants as Written
 use Rattle.report.specs.declared.Reported.{Reported}
 use Rattle.report.specs.declared.Reported.the-variants as Reported
 
@@ -64,3 +66,13 @@ reportNumber (Reported.Refused c) = refusal c
 -- no report is longer than the shortest buffer that is taken
 abbrev pub ReportFits : Reported → Type 0
 ReportFits a = (n : ℕ) → a ≡ Reported.Length n → n ≤ 2048
+
+-- ── a rule from a text, a text from a rule ──
+-- how many bytes are written
+abbrev pub writtenNumber : Written → ℕ
+writtenNumber (Written.Length n) = n
+writtenNumber (Written.Refused c) = refusal c
+
+-- neither a rule file nor a text is longer than the shortest buffer that is taken
+abbrev pub WrittenFits : Written → Type 0
+WrittenFits a = (n : ℕ) → a ≡ Written.Length n → n ≤ 4096

@@ -5,8 +5,9 @@
 ghost use mathlib.Core.Path.{_≡_};
 ghost use Prim.Native.Nat.{_≤_};
 ghost use lib.ListN.{length};
-ghost use Rattle.answer_numbers.specs.Numbers.{setNumber, relationNumber, logNumber, reportNumber, ReportFits};
+ghost use Rattle.answer_numbers.specs.Numbers.{setNumber, relationNumber, logNumber, reportNumber, ReportFits, writtenNumber, WrittenFits};
 ghost use Rattle.answer_numbers.specs.InBytes.{asByte, lineNumbered, tallyFrom, tallyIn, talliedNumbered, logKept};
+use output::Written;
 use reading::Ending;
 use reading::LogRead;
 use relations::Composed;
@@ -56,6 +57,17 @@ pub fn report_number(a: Reported) -> u32
     match a {
         Reported::Length(n) => return n as u32,
         Reported::Refused(c) => return (c as u32) * REFUSAL_STEP,
+    }
+}
+
+// The length of what was written, or the refusal.
+pub fn written_number(a: Written) -> u32
+    requires { ⌜ WrittenFits a ⌝ }
+    ensures { λ n. ⌜ n ≡ writtenNumber a ⌝ }
+{
+    match a {
+        Written::Length(n) => return n as u32,
+        Written::Refused(c) => return (c as u32) * REFUSAL_STEP,
     }
 }
 

@@ -6,5 +6,7 @@ pub mod Untouched
 pub mod Refusals
 pub mod Verdicts
 pub mod Lessons
+pub mod TypedCases
 pub mod Worked
+pub mod Typed
 pub mod Claims

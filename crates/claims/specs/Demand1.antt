@@ -39,8 +39,9 @@ use Rattle.claims.specs.WhereMet.{Met, MetTally, MetLog, MetRelate}
 -- "If any log, rule file, carried record or lent buffer comes in, the call ends and does nothing undefined. Each
 -- refusal is on the numbered list, is met just where the list says, and changes nothing that earlier lines had
 -- settled."
+-- The list goes to 25; which of them a call answers is said where it is met.
 abbrev pub Listed : ℕ → Type 0
-Listed c = (1 ≤ c) × (c ≤ 24)
+Listed c = (1 ≤ c) × (c ≤ 25)
 
 pub record Refuses (c : ℕ) (answered met kept : Type 0) : Type 0 where
   pub listed : answered → Listed c
@@ -87,5 +88,6 @@ pub record Demand1 : Type 0 where
   pub next : (log : List ℕ) (p c : ℕ)
       → Refuses c (nextLine log p ≡ Next.Refused c)
       ((p < length log) × (has? 10 (take lineLimit (drop p log)) ≡ false) × (c ≡ 11)) (advancedFrom log p .place ≡ p)
-  -- "no call changes a byte past those it is stated to write; work bytes past 16,384 never change"
+  -- "no call changes a byte past those it is stated to write; work bytes past 16,384 never change"; of typed rules it is
+  -- said in `Reading` and `Writing`
   pub untouched : (w w′ : List ℕ) (n : ℕ) → Lent w w′ n → Beyond n w w′

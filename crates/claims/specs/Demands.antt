@@ -1,5 +1,5 @@
--- The three demands, as three statements about every call (`Calls.antt`): of whatever the calls answer and leave by
--- their contracts. That a call ends and does nothing undefined is proved of every function.
+-- The three demands and the typed rules, as four statements about every call (`Calls.antt`, `Typed.antt`): of whatever
+-- the calls answer and leave by their contracts. That a call ends and does nothing undefined is proved of every function.
 --
 -- The words of this page, and where they are defined:
 --   Accepted log t      no line of log meets a refusal, and its lines leave the trace t   trace/specs/Trace
@@ -12,6 +12,11 @@
 --   Spoken log t        what the lines of log say is what they leave                      accepted_logs/specs/Spoken
 --   Settled, Judged, Reads   what a call leaves after accepted lines                      report/specs/Settled
 --   Lent, Beyond        a lent buffer; what stands behind the bytes that a call writes    report/specs/Calls
+--   Grammar.Says text t the text is inside the grammar of typed rules and says the tree t typed_grammar/specs/Grammar
+--   formulaSaid t       the formula that the tree says, each name the level of its exist  typed_grammar/specs/Formula
+--   ruleFile, ruleText  the rule file and the text of a formula                           typed_grammar/specs/File, Text
+--   MetText             where a typed rule meets a refusal                                typed_grammar/specs/Met
+--   ReadCall, WriteCall, MetWriting   the calls on typed rules; where writing is refused  claims/specs/Typed
 --   ruleOf, formulaOf   the rule of a file that meets no refusal, and its formula         rules/specs/Rules
 --   Says t f v          v is "holds" if and only if the lines satisfy the formula f       logic/specs/Verdict
 --   Related r t a b     runs a and b are finished, and their positions give r             logic/specs/Satisfies
@@ -34,6 +39,7 @@ use Rattle.relations.specs.Sets.{Member}
 use Rattle.relations.specs.Compose.{Composition, Shown, ShownByThree}
 use Rattle.claims.specs.Demand1.{Demand1}
 use Rattle.claims.specs.Demand2.{Demand2}
+use Rattle.claims.specs.Typed.{TypedRules}
 
 -- "Take any of the 64 × 64 pairs of sets of relations, the empty set included, and any relation. That relation is in
 -- the composition that we report for the pair exactly when some accepted log, of any length, has three different
@@ -54,3 +60,5 @@ pub record Demands : Type 0 where
   pub first : Demand1
   pub second : Demand2
   pub third : Demand3
+  -- rules typed by hand, and written out again
+  pub typed : TypedRules

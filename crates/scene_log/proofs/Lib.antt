@@ -1,3 +1,4 @@
 -- What the proofs of several functions use.
 mod Numbered
 mod InBytes
+pub mod Texts

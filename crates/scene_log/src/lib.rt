@@ -7,6 +7,7 @@
 ghost use mathlib.Core.Path.{_≡_};
 ghost use Rattle.labels.specs.Fnv.{fnvOf};
 ghost use Rattle.scene_log.specs.Numbers.{ComposesNumbers, ConversesNumber, ChecksLogNumber, ReportsNumber};
+ghost use Rattle.scene_log.specs.Texts.{ReadsTextNumber, WritesTextNumber};
 ghost use Rattle.scene_log.specs.InBytes.{StartsNumber, ChecksLineNumber, ChecksTalliedNumber, KeepsLogNumber, RelatesNumber};
 use pairs::Start;
 use trace::RunNo;
@@ -33,6 +34,24 @@ pub extern "C" fn scene_log_report(
 {
     let a = report::report(rule, log, work, verdicts, text);
     answer_numbers::report_number(a)
+}
+
+// The rule file of a typed rule at the start of the rule: its length, or the refusal.
+#[no_mangle]
+pub extern "C" fn scene_log_rule_from_text(text: &[u8], rule: &mut [u8]) -> u32
+    ensures { λ n. ⌜ ReadsTextNumber (now (text .entry)) (now (rule .entry)) n (now (rule .exit)) ⌝ }
+{
+    let a = typed_file::rule_from_text(text, rule);
+    answer_numbers::written_number(a)
+}
+
+// The text of a rule file at the start of the text: its length, or the refusal.
+#[no_mangle]
+pub extern "C" fn scene_log_text_from_rule(rule: &[u8], text: &mut [u8]) -> u32
+    ensures { λ n. ⌜ WritesTextNumber (now (rule .entry)) (now (text .entry)) n (now (text .exit)) ⌝ }
+{
+    let a = rule_text::text_from_rule(rule, text);
+    answer_numbers::written_number(a)
 }
 
 // A whole log with a rule file: the number of lines that are taken; or the refusal and the number of the refused line.

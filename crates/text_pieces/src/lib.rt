@@ -1,6 +1,6 @@
 // Pieces of text, written into a lent buffer: each call answers the place after what it wrote.
 //
-// `put_line` writes the line of a verdict byte, `put_ending` that of a refusal, `put_count` a count of a tally.
+// `put_line` writes the line of a verdict byte, `put_ending` that of a refusal, `put_count` a count of a tally, `put_number` a number.
 ghost use mathlib.Core.Path.{_≡_};
 ghost use mathlib.Core.List.{[], _∷_};
 ghost use Prim.Native.Nat.{_+_, _%_, _<_, _≤_};
@@ -26,7 +26,7 @@ fn last_digit(n: u32) -> u8
 }
 
 // A number in decimal.
-fn put_number(text: &mut [u8], at: usize, n: u32) -> usize
+pub fn put_number(text: &mut [u8], at: usize, n: u32) -> usize
     requires { ⌜ (at + 3 ≤ length (now text)) × (n ≤ 999) ⌝ }
     ensures { λ q. ⌜ WritesFew 3 (decimal n) (now (text .entry)) at (now (text .exit)) q ⌝ }
 {

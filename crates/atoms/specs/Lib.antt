@@ -1,0 +1,4 @@
+pub mod Tree
+pub mod Emit
+pub mod Atoms
+pub mod Readers

@@ -1,0 +1,4 @@
+pub mod RoundTrip
+pub mod Means
+pub mod Weights
+pub mod Texts

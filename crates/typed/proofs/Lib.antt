@@ -1,0 +1,11 @@
+pub mod Emitted
+pub mod Answers
+pub mod Others
+pub mod Passed
+pub mod Chains
+pub mod Operands
+pub mod Skipped
+pub mod Scopes
+pub mod Closing
+pub mod Calls
+pub mod Whole

@@ -1,0 +1,4 @@
+pub mod Steps
+pub mod Folds
+pub mod Numbers
+pub mod Judged

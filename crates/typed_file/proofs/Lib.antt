@@ -1,0 +1,5 @@
+pub mod Writing
+pub mod ReadBack
+pub mod Fine
+pub mod TakenFile
+pub mod Answers

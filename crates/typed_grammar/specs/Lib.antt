@@ -1,0 +1,6 @@
+pub mod Words
+pub mod Grammar
+pub mod Formula
+pub mod File
+pub mod Text
+pub mod Met

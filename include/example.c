@@ -1,23 +1,38 @@
-/* Checks a log with the rule "some run is before another", which is node (5,0,1) under two "some": at once, and line by line. */
+/* Checks a log with the rule "some run is before another", which is typed: at once, and line by line. */
 #include <stdio.h>
 #include <string.h>
 #include "scene_log.h"
 
-static const uint8_t rule[] = {'R', 'U', 'L', 1, 0, 0, 3, 5, 0, 1, 3, 1, 0, 3, 0, 1};
+static const char typed[] = "exist A, B . A < B";
 static const char *const lines[] = {"B 1 EVENING\n", "E 1\n", "B 2 TEST\n", "E 2\n", "E 2\n"};
 static uint8_t work[SCENE_LOG_WORK_BYTES], verdicts[SCENE_LOG_VERDICT_BYTES], text[SCENE_LOG_TEXT_BYTES];
 static uint8_t record[SCENE_LOG_RECORD_BYTES];
 static uint32_t tally[SCENE_LOG_TALLY_COUNTS];
+static uint8_t rule[SCENE_LOG_RULE_BYTES], rule_text[SCENE_LOG_RULE_TEXT_BYTES];
+static size_t rule_length;
 
 /* Prints a refusal. */
 static void say_refused(const char *what, uint32_t refusal) {
     printf("%s is refused with %u: %s\n", what, (unsigned)refusal, scene_log_refusal_text(refusal));
 }
 
+/* Makes the rule file of the typed rule, and prints the rule as it is written out. A rule that is not one is refused. */
+static int read_rule(void) {
+    scene_log_answer answer = scene_log_rule_from_text((const uint8_t *)"exist A, B", 10, rule, sizeof rule);
+    say_refused("half a rule", SCENE_LOG_REFUSAL(answer));
+    answer = scene_log_rule_from_text((const uint8_t *)typed, strlen(typed), rule, sizeof rule);
+    rule_length = SCENE_LOG_VALUE(answer);
+    if (SCENE_LOG_REFUSED(answer))
+        return 0;
+    answer = scene_log_text_from_rule(rule, rule_length, rule_text, sizeof rule_text);
+    printf("%.*s\n", (int)SCENE_LOG_VALUE(answer), (const char *)rule_text);
+    return !SCENE_LOG_REFUSED(answer);
+}
+
 /* Prints the report of the whole log. */
 static int report_log(void) {
     static const char log[] = "B 1 EVENING\nE 1\nB 2 TEST\nE 2\n";
-    scene_log_answer answer = scene_log_report(rule, sizeof rule, (const uint8_t *)log, strlen(log), work, sizeof work,
+    scene_log_answer answer = scene_log_report(rule, rule_length, (const uint8_t *)log, strlen(log), work, sizeof work,
                                                verdicts, sizeof verdicts, text, sizeof text);
     size_t length = SCENE_LOG_VALUE(answer);
     return !SCENE_LOG_REFUSED(answer) && fwrite(text, 1, length, stdout) == length;
@@ -31,8 +46,8 @@ static int line_by_line(void) {
         return 0;
     for (i = 0; i < sizeof lines / sizeof *lines; i++) {
         scene_log_verdict verdict =
-            scene_log_check_line_tallied(rule, sizeof rule, record, sizeof record, tally, SCENE_LOG_TALLY_COUNTS, work, sizeof work,
-                                         (const uint8_t *)lines[i], strlen(lines[i]));
+            scene_log_check_line_tallied(rule, rule_length, record, sizeof record, tally, SCENE_LOG_TALLY_COUNTS,
+                                         work, sizeof work, (const uint8_t *)lines[i], strlen(lines[i]));
         if (SCENE_LOG_REFUSED(verdict))
             say_refused("the line", SCENE_LOG_REFUSAL(verdict));
         else
@@ -46,7 +61,7 @@ static int line_by_line(void) {
 static int record_of_log(void) {
     scene_log_verdict verdict;
     static const char log[] = "B 1\nB 2\nE 1\nE 2\nE 3\n";
-    scene_log_answer answer = scene_log_check_log_record(rule, sizeof rule, (const uint8_t *)log, strlen(log),
+    scene_log_answer answer = scene_log_check_log_record(rule, rule_length, (const uint8_t *)log, strlen(log),
                                                          record, sizeof record, work, sizeof work,
                                                          verdicts, sizeof verdicts);
     if (SCENE_LOG_REFUSED(answer)) {
@@ -57,11 +72,11 @@ static int record_of_log(void) {
     if (SCENE_LOG_REFUSED(answer))
         return 0;
     puts(SCENE_LOG_VALUE(answer) == SCENE_LOG_OVERLAPS ? "the first overlaps the second" : "they relate in another way");
-    verdict = scene_log_check_line(rule, sizeof rule, record, sizeof record, work, sizeof work, (const uint8_t *)"B 3\n", 4);
+    verdict = scene_log_check_line(rule, rule_length, record, sizeof record, work, sizeof work, (const uint8_t *)"B 3\n", 4);
     puts(SCENE_LOG_FAILS(verdict) ? "fails" : "holds or is refused");
     return 1;
 }
 
 int main(void) {
-    return report_log() && line_by_line() && record_of_log() ? 0 : 1;
+    return read_rule() && report_log() && line_by_line() && record_of_log() ? 0 : 1;
 }

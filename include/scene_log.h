@@ -5,10 +5,11 @@
  * Assumed: the prover and the compiler (LLVM), memcpy and memset of the C library, and that the caller passes what is asked
  * for here. This header itself is tested, not proved.
  *
- * A buffer is a pointer and a length: of bytes, for a tally of counts. rule, log, line and bytes may be NULL with length 0; the
- * other buffers are never NULL. A buffer that is written overlaps no other buffer of the same call. Every call takes any
- * contents and any length. The calls keep nothing between them, so threads may use them at the same time, each with buffers
- * of its own. A call takes less than SCENE_LOG_STACK_BYTES of stack.
+ * A buffer is a pointer and a length: of bytes, for a tally of counts. A const buffer other than a record may be NULL with
+ * length 0; the other buffers are never NULL. A buffer that is written overlaps no other buffer of the same call. Every call
+ * takes any contents and any length. The calls keep nothing between them, so threads may use them at the same time, each with
+ * buffers of its own. A call takes less than SCENE_LOG_STACK_BYTES of stack,
+ * and scene_log_rule_from_text less than SCENE_LOG_TYPED_STACK_BYTES.
  *
  * An answer is read with the macros below and never used as a truth value. It is a struct so that the compiler refuses that. The
  * verdicts of a whole log are its verdict bytes, 1 or 0, of which SCENE_LOG_LINES(answer) are written.
@@ -33,9 +34,12 @@
 #define SCENE_LOG_TEXT_BYTES 2048
 #define SCENE_LOG_RECORD_BYTES 2628
 #define SCENE_LOG_TALLY_COUNTS 5
+#define SCENE_LOG_RULE_BYTES 599
+#define SCENE_LOG_RULE_TEXT_BYTES 4096
 
-/* The stack that a thread has left where it makes a call. */
+/* The stack that a thread has left where it makes a call; and where it reads a typed rule. */
 #define SCENE_LOG_STACK_BYTES 262144
+#define SCENE_LOG_TYPED_STACK_BYTES 1048576
 
 /* An answer: 65,536 times a refusal, or a value below 65,536. */
 typedef struct {
@@ -102,7 +106,8 @@ enum scene_log_refusal {
     SCENE_LOG_NO_RECORD = 21,
     SCENE_LOG_NO_FINISHED_RUN = 22,
     SCENE_LOG_SAME_RUN = 23,
-    SCENE_LOG_NO_TALLY = 24
+    SCENE_LOG_NO_TALLY = 24,
+    SCENE_LOG_RULE_GRAMMAR = 25
 };
 
 /* The relations between two different finished runs; a set is a sum of them, 0 to 63. */
@@ -152,6 +157,7 @@ static inline const char *scene_log_refusal_text(uint32_t refusal) {
         "a run number has no finished run",
         "both numbers name the same finished run",
         "the tally's counts are not the record's, or its failing lines exceed its lines",
+        "the typed rule is outside the grammar or longer than 4,096 bytes",
     };
     return texts[refusal < sizeof texts / sizeof *texts ? refusal : 0];
 }
@@ -168,6 +174,19 @@ static inline const char *scene_log_refusal_text(uint32_t refusal) {
 #ifdef __cplusplus
 extern "C" {
 #endif
+
+/* Reads a typed rule, as "!exist A, B . A('EVENING') & B('TEST') & A i B", and writes its rule file to the start of rule, which
+ * has at least SCENE_LOG_RULE_BYTES. Value: the file's length. It is a file that every call here takes as a rule. Refused, in
+ * this order and each over the whole text, with 20; 25; 4 for more than 64 nodes or 16 different labels; 5 for a label; 9 for a
+ * name that no "exist" around it binds; 10 for five names bound one inside another. Then nothing is written. */
+SCENE_LOG_CALL SCENE_LOG_NOT_NULL(3)
+scene_log_answer scene_log_rule_from_text(const uint8_t *text, size_t text_length, uint8_t *rule, size_t rule_length);
+
+/* Writes a rule file out as a typed rule, to the start of text, which has at least SCENE_LOG_RULE_TEXT_BYTES. Value: the text's
+ * length. It has no LF and no byte 0 at its end. Its names are A to D; read again, it is a rule with the same verdicts on every
+ * log. Refused with 20, then with the rule's 1 to 10, and then nothing is written. */
+SCENE_LOG_CALL SCENE_LOG_NOT_NULL(3)
+scene_log_answer scene_log_text_from_rule(const uint8_t *rule, size_t rule_length, uint8_t *text, size_t text_length);
 
 /* The whole output of the check for a rule file and a log, written to the start of text. Value: its length. It ends in LF and
  * has no byte 0 at its end. Refused with 20 alone, and then nothing is written; what the rule and the lines meet is printed. */

@@ -5,14 +5,14 @@ use crate::logs::{
     begins_first, begins_first_by, interleaved, interleaved_by, kept, section_6_of_figure_1, section_6_of_section_3, Log,
 };
 use crate::measure::Baseline;
-use crate::rules::{figure_1, section_3, two_nodes, worst, Case};
+use crate::rules::{figure_1, section_3, two_nodes, worst, Case, NodeList};
 use crate::trace::{Line, Trace};
 use crate::{plain, published, LABELS};
 use generate::case;
 use generate::random::Random;
 use generate::rules::legal_rule;
-use reference::listing::rule_file;
-use reference::rule::read_rule;
+use reference::rule::{read_rule, BEFORE, HAS_LABEL, INCLUDES};
+use reference::typed::rule_file;
 use scene_log::{check_log, LogRefused, VERDICT_BYTES, WORK_BYTES};
 use std::collections::BTreeSet;
 
@@ -151,18 +151,27 @@ fn the_three_agree_on_long_logs() {
 fn a_rule_over_four_variables_is_its_two_halves() {
     let log = section_6_of_figure_1(2, 68);
     for [x, y, u, v] in [[0, 3, 1, 2], [3, 0, 2, 1], [1, 3, 0, 2], [2, 0, 3, 1], [0, 1, 2, 3], [2, 3, 1, 0]] {
-        let halves = format!(
-            "label DL_MOBPRM\nhas {x} 0\nincludes {x} {y}\nsome {y} 1\nand 0 2\nsome {x} 3\n\
-             before {u} {v}\nsome {v} 5\nsome {u} 6\nand 4 7\n"
-        );
-        let whole = format!(
-            "label DL_MOBPRM\nhas {x} 0\nincludes {x} {y}\nand 0 1\nbefore {u} {v}\nand 2 3\nnot 4\nnot 5\n\
-             some 3 6\nsome 2 7\nsome 1 8\nsome 0 9\n"
-        );
-        let expected = all_agreed(&[PLAIN, PUBLISHED], &rule_file(&halves).expect("a legal rule"), &log, "halves");
+        let mut halves = NodeList::with_labels(&["DL_MOBPRM"]);
+        let has = halves.node(HAS_LABEL, x, 0);
+        let includes = halves.node(INCLUDES, x, y);
+        let includes = halves.some(&[y], includes);
+        let both = halves.and(has, includes);
+        let first = halves.some(&[x], both);
+        let before = halves.node(BEFORE, u, v);
+        let second = halves.some(&[u, v], before);
+        halves.and(first, second);
+        let mut whole = NodeList::with_labels(&["DL_MOBPRM"]);
+        let has = whole.node(HAS_LABEL, x, 0);
+        let includes = whole.node(INCLUDES, x, y);
+        let first = whole.and(has, includes);
+        let before = whole.node(BEFORE, u, v);
+        let both = whole.and(first, before);
+        let nots = whole.nots(2, both);
+        whole.some(&[0, 1, 2, 3], nots);
+        let expected = all_agreed(&[PLAIN, PUBLISHED], &halves.file(), &log, "halves");
         assert_eq!(expected.iter().position(|verdict| *verdict), Some(2 * log.runs - 1));
         let message = format!("variables {x}, {y} and {u}, {v}");
-        let found = all_agreed(&[PUBLISHED], &rule_file(&whole).expect("a legal rule"), &log, &message);
+        let found = all_agreed(&[PUBLISHED], &whole.file(), &log, &message);
         assert_eq!(found, expected, "{message}");
     }
 }
@@ -236,11 +245,11 @@ fn the_worst_rules_have_as_many_nodes_as_the_limit_lets_and_are_never_true() {
 
 #[test]
 fn both_relations_of_a_pair_occur_in_both_kinds_of_logs() {
-    let occurs = |relation: &str, log: &Log| {
-        let rule = rule_file(&format!("{relation} 0 1\nsome 1 0\nsome 0 1\n")).expect("a legal rule");
-        agreed_verdicts(&rule, &log.bytes, relation).contains(&true)
+    let occurs = |text: &str, log: &Log| {
+        let rule = rule_file(text.as_bytes()).expect("a legal rule");
+        agreed_verdicts(&rule, &log.bytes, text).contains(&true)
     };
     for log in [interleaved(16, &LABELS), begins_first(16, &LABELS)] {
-        assert!(occurs("overlaps", &log) && occurs("includes", &log), "{}", log.kind);
+        assert!(occurs("exist A, B . A o B", &log) && occurs("exist A, B . A i B", &log), "{}", log.kind);
     }
 }

@@ -3,6 +3,7 @@
 
 use crate::logs::MAX_RUNS;
 use crate::table::{seconds, short, Number, Row};
+use crate::typed;
 use Limit::{AtLeast, AtMost, NoneDown, NoneUp};
 
 /// The whole-log call and the single-line call, as multiples of the whole-log call with the two-node rule; and the single-line
@@ -24,7 +25,7 @@ const WORST_GROWTH: f64 = 10.0;
 
 /// A limit for one number of a row. Where none is set, the largest or the smallest number is shown.
 #[derive(Clone, Copy)]
-enum Limit {
+pub enum Limit {
     AtMost(f64),
     AtLeast(f64),
     NoneUp,
@@ -67,8 +68,8 @@ fn unlimited((what, limit, number, form): Asked) -> Asked {
     (what, if limit.is_upper() { NoneUp } else { NoneDown }, number, form)
 }
 
-/// Prints a line for each requirement, over the rows of full logs. Answers whether none failed.
-pub fn print_checks(rows: &[Row]) -> bool {
+/// Prints a line for each requirement, over the rows of full logs and of typed rules. Answers whether none failed.
+pub fn print_checks(rows: &[Row], typed: Option<&typed::Rows>) -> bool {
     println!("\n## Required\n");
     let of = |rule: &str| rows.iter().filter(|row| row.runs == MAX_RUNS && row.rule.starts_with(rule)).collect::<Vec<&Row>>();
     let (section_6, others): (Vec<&Row>, Vec<&Row>) = of("figure 1").iter().partition(|row| row.log == "section 6");
@@ -78,6 +79,7 @@ pub fn print_checks(rows: &[Row]) -> bool {
         print_check("two nodes", &of("two nodes"), TWO_NODES),
         print_check("section 3", &of("section 3"), SINGLE),
         print_all("worst rules", &of("worst"), &WORST),
+        typed::print_checks(typed),
     ];
     passed.iter().all(|passed| *passed)
 }
@@ -99,17 +101,36 @@ fn print_all(name: &str, rows: &[&Row], all: &[Asked]) -> bool {
     all.iter().fold(true, |passed, asked| print_check(name, rows, *asked) && passed)
 }
 
-/// One line: PASS or FAIL, the number that comes nearest to the limit or is furthest past it, the limit, and in how many rows
-/// the number is carried on from shorter logs. Rows that were left out are named as not measured; a row whose whole-log time was
-/// not taken does not pass.
+/// One line for some rows. Rows that were left out are named as not measured; a row whose whole-log time was not taken
+/// does not pass.
 fn print_check(name: &str, rows: &[&Row], (what, limit, number, form): Asked) -> bool {
-    if rows.is_empty() {
+    let numbers: Vec<Number> = rows.iter().filter_map(|row| number(row)).collect();
+    let is_complete = numbers.len() == rows.len() && rows.iter().all(|row| row.whole.is_taken);
+    print_line(name, what, limit, numbers, form, is_complete, rows.len())
+}
+
+/// The same for numbers that were all taken.
+pub fn print_numbers(name: &str, what: &str, limit: Limit, numbers: Vec<Number>, form: fn(f64) -> String) -> bool {
+    let count = numbers.len();
+    print_line(name, what, limit, numbers, form, true, count)
+}
+
+/// PASS or FAIL, the number that comes nearest to the limit or is furthest past it, the limit, and in how many rows the
+/// number is carried on from shorter logs.
+fn print_line(
+    name: &str,
+    what: &str,
+    limit: Limit,
+    mut numbers: Vec<Number>,
+    form: fn(f64) -> String,
+    is_complete: bool,
+    rows: usize,
+) -> bool {
+    if rows == 0 {
         println!("- not measured: {name}: {what}");
         return true;
     }
-    let mut numbers: Vec<Number> = rows.iter().filter_map(|row| number(row)).collect();
     numbers.sort_by(|one, other| one.value.total_cmp(&other.value));
-    let is_complete = numbers.len() == rows.len() && rows.iter().all(|row| row.whole.is_taken);
     let furthest = if limit.is_upper() { numbers.last() } else { numbers.first() };
     let is_kept = |keeps: &dyn Fn(f64) -> bool| Some(is_complete && furthest.is_some_and(|number| keeps(number.value)));
     let (passed, words) = match limit {
@@ -122,7 +143,7 @@ fn print_check(name: &str, rows: &[&Row], (what, limit, number, form): Asked) ->
     let found = furthest.map_or("not measured".into(), |number| number.shown(form));
     let carried = match numbers.iter().filter(|number| !number.is_taken).count() {
         0 => String::new(),
-        count => format!("; carried on in {count} of {} rows", rows.len()),
+        count => format!("; carried on in {count} of {rows} rows"),
     };
     println!("- {verdict}: {name}: {what}: {found} ({words}{carried})");
     passed.unwrap_or(true)

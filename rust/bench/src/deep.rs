@@ -1,13 +1,13 @@
 //! Random rules with "some" nodes one inside another, for the tests.
 
-use crate::rules::Listing;
+use crate::rules::NodeList;
 use generate::random::Random;
-use reference::rule::{Rule, AND, NOT, SOME};
+use reference::rule::{Rule, AND, BEFORE, HAS_LABEL, INCLUDES, NOT, OVERLAPS, SAME, SOME};
 
 /// A rule that is being made.
 struct Maker<'a> {
     random: &'a mut Random,
-    listing: Listing,
+    list: NodeList,
     /// How many labels the rule names.
     labels: usize,
 }
@@ -22,9 +22,9 @@ pub fn deep_rule(random: &mut Random, labels: &[&str], nested: usize) -> Vec<u8>
     if random.chance(1, 8) {
         variables[random.below(nested)] = variables[random.below(nested)];
     }
-    let mut maker = Maker { random, listing: Listing::with_labels(labels), labels: labels.len() };
+    let mut maker = Maker { random, list: NodeList::with_labels(labels), labels: labels.len() };
     maker.some(&variables[..nested], 0);
-    maker.listing.file()
+    maker.list.file()
 }
 
 impl Maker<'_> {
@@ -46,9 +46,9 @@ impl Maker<'_> {
             body = self.joined(part, body);
         }
         if self.random.chance(1, 2) {
-            body = self.not(body);
+            body = self.list.not(body);
         }
-        self.listing.node("some", &[variables[place], body])
+        self.list.some(&[variables[place]], body)
     }
 
     /// A formula without "some" over the bound variables, of so many atoms.
@@ -60,7 +60,7 @@ impl Maker<'_> {
             return self.joined(first, second);
         }
         let atom = self.atom(bound);
-        if self.random.chance(1, 3) { self.not(atom) } else { atom }
+        if self.random.chance(1, 3) { self.list.not(atom) } else { atom }
     }
 
     /// An atom; every second one is sure to name the variable bound last.
@@ -68,10 +68,10 @@ impl Maker<'_> {
         let any = *self.random.pick(bound);
         let x = if self.random.chance(1, 2) { bound[bound.len() - 1] } else { any };
         let y = *self.random.pick(bound);
-        let pair = if self.random.chance(1, 2) { [x, y] } else { [y, x] };
-        match *self.random.pick(&["has", "has", "same", "before", "overlaps", "includes"]) {
-            "has" => self.listing.node("has", &[x, self.random.below(self.labels)]),
-            relation => self.listing.node(relation, &pair),
+        let [first, second] = if self.random.chance(1, 2) { [x, y] } else { [y, x] };
+        match *self.random.pick(&[HAS_LABEL, HAS_LABEL, SAME, BEFORE, OVERLAPS, INCLUDES]) {
+            HAS_LABEL => self.list.node(HAS_LABEL, x, self.random.below(self.labels)),
+            relation => self.list.node(relation, first, second),
         }
     }
 
@@ -79,15 +79,11 @@ impl Maker<'_> {
     fn joined(&mut self, first: usize, second: usize) -> usize {
         let [a, b] = if self.random.chance(1, 2) { [first, second] } else { [second, first] };
         if self.random.chance(1, 2) {
-            return self.listing.node("and", &[a, b]);
+            return self.list.and(a, b);
         }
-        let nots = [self.not(a), self.not(b)];
-        let neither = self.listing.node("and", &nots);
-        self.not(neither)
-    }
-
-    fn not(&mut self, child: usize) -> usize {
-        self.listing.node("not", &[child])
+        let [not_a, not_b] = [self.list.not(a), self.list.not(b)];
+        let neither = self.list.and(not_a, not_b);
+        self.list.not(neither)
     }
 }
 

@@ -1,8 +1,8 @@
 //! Times of the proved check, of a plain evaluator and of the published algorithm on the same rules and logs, side by side.
 //!
 //! `cargo run --release -p bench` prints a table for each group of rules, the noise, and whether the times are as required.
-//! `--quick` stops at 32 runs; `--group NAME` measures one group: reading, figure1, section3 or worst. Times differ between
-//! machines; the ratios much less. `docs/PERFORMANCE.md` says what each column is.
+//! `--quick` stops at 32 runs; `--group NAME` measures one group: reading, figure1, section3, worst or typed. Times differ
+//! between machines; the ratios much less. `docs/PERFORMANCE.md` says what each column is.
 
 #[cfg(test)]
 mod agree;
@@ -16,6 +16,7 @@ mod published;
 mod rules;
 mod table;
 mod trace;
+mod typed;
 
 use logs::{begins_first, interleaved, kept, section_6_of_figure_1, section_6_of_section_3, Log, MAX_RUNS};
 use measure::{Noise, Series, Time};
@@ -55,12 +56,16 @@ fn all_kinds(property: usize) -> [Measured; 4] {
 }
 
 /// The names of the groups, as `--group` takes them, and their headings.
-const GROUPS: [(&str, &str); 4] = [
+const GROUPS: [(&str, &str); 5] = [
     ("reading", "Reading"),
     ("figure1", "The properties of figure 1"),
     ("section3", "The properties of section 3"),
     ("worst", "The worst rules"),
+    (TYPED, "Typed rules"),
 ];
+
+/// The group that has texts instead of logs.
+const TYPED: &str = "typed";
 
 fn group(name: &str) -> Vec<Measured> {
     match name {
@@ -139,7 +144,7 @@ fn options() -> Result<Options, String> {
         }
     }
     if options.groups.is_empty() {
-        return Err("the groups are reading, figure1, section3 and worst".into());
+        return Err("the groups are reading, figure1, section3, worst and typed".into());
     }
     Ok(options)
 }
@@ -155,6 +160,7 @@ fn main() -> ExitCode {
     let (rule, log) = (two_nodes().file, interleaved(MAX_RUNS, &LABELS));
     let mut noise = Noise::default();
     noise.measure("beginning", &rule, &log);
+    let (typed, groups): (Vec<_>, Vec<_>) = groups.into_iter().partition(|(name, _)| *name == TYPED);
     let groups: Vec<_> = groups.iter().map(|(name, title)| (title, group(name))).collect();
     let count: usize = groups.iter().map(|(_, group)| group.len()).sum();
     let mut rows = Vec::new();
@@ -167,7 +173,8 @@ fn main() -> ExitCode {
             rows.extend(rows_of(measured, sizes));
         }
     }
+    let typed = typed.first().map(|(_, title)| typed::measured(title));
     noise.measure("end", &rule, &log);
     print_noise(&noise);
-    if checks::print_checks(&rows) { ExitCode::SUCCESS } else { ExitCode::FAILURE }
+    if checks::print_checks(&rows, typed.as_ref()) { ExitCode::SUCCESS } else { ExitCode::FAILURE }
 }

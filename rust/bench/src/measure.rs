@@ -69,6 +69,16 @@ pub fn single_line(rule: &[u8], two_nodes: &[u8], log: &Log) -> f64 {
     repeats(&mut check.clone(), restore, call)[0]
 }
 
+/// The shortest time of a call that is lent a buffer of this length; its answer, and what it left there.
+pub fn lent_buffer(
+    length: usize,
+    call: impl Fn(&mut [u8]) -> Result<usize, u8>,
+) -> (f64, (Result<usize, u8>, Vec<u8>)) {
+    let mut state = (Ok(0), vec![0; length]);
+    let times = repeats(&mut state, |_| {}, |(answer, buffer)| *answer = call(buffer));
+    (times[0], state)
+}
+
 /// One of the two baselines: the verdict of every line.
 pub type Baseline = fn(&Rule, &Trace) -> Vec<bool>;
 

@@ -1,8 +1,6 @@
 //! The rules that are measured.
 
-use reference::listing::rule_file;
-use reference::rule::read_rule;
-use std::fmt::Write;
+use reference::rule::{read_rule, Node, Rule, AND, INCLUDES, NOT, OVERLAPS, SAME, SOME};
 use std::fs;
 use std::path::Path;
 
@@ -40,35 +38,37 @@ pub fn section_3(property: usize) -> Case {
     lesson(format!("section 3, property {property}"), format!("property_{property}_kept"), nested)
 }
 
-/// A listing that is being written. Each method adds a node and answers its number.
-#[derive(Default)]
-pub struct Listing {
-    text: String,
-    nodes: usize,
-}
+/// A rule whose nodes are being listed. Each method adds nodes and answers the number of the last.
+pub struct NodeList(Rule);
 
-impl Listing {
-    /// A listing that names these labels.
-    #[cfg(test)]
-    pub fn with_labels(labels: &[&str]) -> Listing {
-        Listing { text: labels.iter().map(|label| format!("label {label}\n")).collect(), nodes: 0 }
+impl NodeList {
+    /// A list for a rule that names these labels.
+    pub fn with_labels(labels: &[&str]) -> NodeList {
+        NodeList(Rule { labels: labels.iter().map(|label| label.as_bytes().to_vec()).collect(), nodes: Vec::new() })
     }
 
-    pub fn node(&mut self, word: &str, fields: &[usize]) -> usize {
-        self.text += word;
-        for field in fields {
-            write!(self.text, " {field}").unwrap();
-        }
-        self.text.push('\n');
-        self.nodes += 1;
-        self.nodes - 1
+    fn new() -> NodeList {
+        NodeList::with_labels(&[])
+    }
+
+    pub fn node(&mut self, kind: u8, a: usize, b: usize) -> usize {
+        self.0.nodes.push(Node { kind, a: a as u8, b: b as u8 });
+        self.0.nodes.len() - 1
+    }
+
+    pub fn and(&mut self, first: usize, second: usize) -> usize {
+        self.node(AND, first, second)
+    }
+
+    pub fn not(&mut self, child: usize) -> usize {
+        self.node(NOT, child, 0)
     }
 
     /// Two relations of the same runs that never both hold. Each holds of many runs, so neither alone settles anything.
     fn never(&mut self, x: usize, y: usize) -> usize {
-        let overlaps = self.node("overlaps", &[x, y]);
-        let includes = self.node("includes", &[x, y]);
-        self.node("and", &[overlaps, includes])
+        let overlaps = self.node(OVERLAPS, x, y);
+        let includes = self.node(INCLUDES, x, y);
+        self.and(overlaps, includes)
     }
 
     /// One of the first `length` pairs of `never`: "not" of an "and" of "not"s, five nodes a pair.
@@ -76,25 +76,27 @@ impl Listing {
         let mut none = None;
         for (x, y) in &PAIRS[..length] {
             let pair = self.never(*x, *y);
-            let not = self.node("not", &[pair]);
-            none = Some(none.map_or(not, |earlier| self.node("and", &[earlier, not])));
+            let not = self.not(pair);
+            none = Some(none.map_or(not, |earlier| self.and(earlier, not)));
         }
-        self.node("not", &[none.expect("at least one pair")])
+        self.not(none.expect("at least one pair"))
     }
 
     /// So many times "not".
-    fn nots(&mut self, count: usize, child: usize) -> usize {
-        (0..count).fold(child, |child, _| self.node("not", &[child]))
+    pub fn nots(&mut self, count: usize, child: usize) -> usize {
+        (0..count).fold(child, |child, _| self.not(child))
     }
 
     /// "some" for each of these variables, the last one innermost.
-    fn some(&mut self, variables: &[usize], child: usize) -> usize {
-        variables.iter().rev().fold(child, |child, variable| self.node("some", &[*variable, child]))
+    pub fn some(&mut self, variables: &[usize], child: usize) -> usize {
+        variables.iter().rev().fold(child, |child, variable| self.node(SOME, *variable, child))
     }
 
     /// The rule file.
     pub fn file(&self) -> Vec<u8> {
-        rule_file(&self.text).expect("a legal rule")
+        let file = self.0.to_bytes();
+        assert!(read_rule(&file).is_ok(), "a legal rule");
+        file
     }
 
     fn case(&self, name: &str) -> Case {
@@ -105,10 +107,10 @@ impl Listing {
 /// The smallest legal rule: some A, same A A. A log with it costs reading and the fixed cost of judging: finding the finish
 /// order, filling the table of rows and writing the verdict bytes.
 pub fn two_nodes() -> Case {
-    let mut listing = Listing::default();
-    let same = listing.node("same", &[0, 0]);
-    listing.some(&[0], same);
-    Case { nested: 1, ..listing.case("two nodes") }
+    let mut list = NodeList::new();
+    let same = list.node(SAME, 0, 0);
+    list.some(&[0], same);
+    Case { nested: 1, ..list.case("two nodes") }
 }
 
 /// All pairs of different variables. Those with D come at the front and at the back, so that the chain stays open until all
@@ -126,44 +128,44 @@ pub fn worst() -> Vec<Case> {
 /// exist A, B, C, D . 56 times "not" of a pair of A and D: 63 nodes. One "not" more would make it true. B and C are not named,
 /// so the sets of the published algorithm stay small.
 fn worst_nots() -> Case {
-    let mut listing = Listing::default();
-    let pair = listing.never(0, 3);
-    let nots = listing.nots(56, pair);
-    listing.some(&[0, 1, 2, 3], nots);
-    listing.case("worst: 56 nots")
+    let mut list = NodeList::new();
+    let pair = list.never(0, 3);
+    let nots = list.nots(56, pair);
+    list.some(&[0, 1, 2, 3], nots);
+    list.case("worst: 56 nots")
 }
 
 /// The same with all four variables named: 54 times "not" of B overlaps C and a pair of A and D, 63 nodes.
 fn worst_nots_of_all() -> Case {
-    let mut listing = Listing::default();
-    let overlaps = listing.node("overlaps", &[1, 2]);
-    let pair = listing.never(0, 3);
-    let both = listing.node("and", &[overlaps, pair]);
-    let nots = listing.nots(54, both);
-    listing.some(&[0, 1, 2, 3], nots);
-    listing.case("worst: 54 nots of all")
+    let mut list = NodeList::new();
+    let overlaps = list.node(OVERLAPS, 1, 2);
+    let pair = list.never(0, 3);
+    let both = list.and(overlaps, pair);
+    let nots = list.nots(54, both);
+    list.some(&[0, 1, 2, 3], nots);
+    list.case("worst: 54 nots of all")
 }
 
 /// exist A, B, C, D . one of twelve pairs, which together name every two variables both ways: 64 nodes.
 fn worst_chain() -> Case {
-    let mut listing = Listing::default();
-    let chain = listing.one_of(12);
-    listing.some(&[0, 1, 2, 3], chain);
-    listing.case("worst: chain")
+    let mut list = NodeList::new();
+    let chain = list.one_of(12);
+    list.some(&[0, 1, 2, 3], chain);
+    list.case("worst: chain")
 }
 
 /// exist A, B, C . (!exist D . one of ten pairs) & exist D . a pair of A and D, under four "not"s: 64 nodes. The first part is
 /// true whatever A, B and C are, so without the second the search would end at once. The second is never true; it has a "some"
 /// of its own, so that it cannot be settled before the first.
 fn worst_inner_chain() -> Case {
-    let mut listing = Listing::default();
-    let chain = listing.one_of(10);
-    let some = listing.some(&[3], chain);
-    let none = listing.node("not", &[some]);
-    let pair = listing.never(0, 3);
-    let nots = listing.nots(4, pair);
-    let never = listing.some(&[3], nots);
-    let both = listing.node("and", &[none, never]);
-    listing.some(&[0, 1, 2], both);
-    listing.case("worst: inner chain")
+    let mut list = NodeList::new();
+    let chain = list.one_of(10);
+    let some = list.some(&[3], chain);
+    let none = list.not(some);
+    let pair = list.never(0, 3);
+    let nots = list.nots(4, pair);
+    let never = list.some(&[3], nots);
+    let both = list.and(none, never);
+    list.some(&[0, 1, 2], both);
+    list.case("worst: inner chain")
 }

@@ -4,11 +4,16 @@
 //! `case(seed)` gives the input of every call. `reference_answers(&case)` gives what
 //! the reference answers and leaves in each buffer. To hold another implementation
 //! against the reference, give it the same case and compare with the answers.
+//!
+//! `texts` has cases of its own for rules typed by hand: `text_case(seed)` for reading a
+//! text, `rule_case(seed)` for writing one.
 
 pub mod logs;
 pub mod random;
 pub mod records;
 pub mod rules;
+pub mod texts;
+pub mod typed;
 
 use random::Random;
 use reference::calls::{

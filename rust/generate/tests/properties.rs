@@ -1,4 +1,4 @@
-//! The listings of the eight properties say what the properties say: each is held
+//! The rules of the eight properties say what the properties say: each is held
 //! against its words in plain code, over many small logs.
 
 use generate::random::Random;
@@ -123,7 +123,7 @@ fn log_of(random: &mut Random, labels: &[Vec<u8>]) -> Vec<u8> {
 }
 
 #[test]
-fn the_listings_of_the_properties_say_what_their_words_say() {
+fn the_rules_of_the_properties_say_what_their_words_say() {
     let properties: [(&str, Property); 8] = [
         ("property_1", property_1),
         ("property_2", property_2),

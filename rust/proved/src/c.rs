@@ -1,6 +1,8 @@
 //! The functions of the archive, as `include/scene_log.h` has them; an answer is its number here.
 
 extern "C" {
+    pub fn scene_log_rule_from_text(text: *const u8, text_length: usize, rule: *mut u8, rule_length: usize) -> u32;
+    pub fn scene_log_text_from_rule(rule: *const u8, rule_length: usize, text: *mut u8, text_length: usize) -> u32;
     pub fn scene_log_report(
         rule: *const u8,
         rule_length: usize,

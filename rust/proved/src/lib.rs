@@ -30,13 +30,23 @@
 //! assert_eq!(check.relate(0, 1)?, Relation::Before);
 //! # Ok::<(), scene_log::Refusal>(())
 //! ```
+//!
+//! The rule may be typed, and is then made into a rule file:
+//!
+//! ```
+//! let rule = scene_log::rule_file("exist A, B . A < B")?;
+//! assert_eq!(rule, b"RUL\x01\x00\x00\x03\x05\x00\x01\x03\x01\x00\x03\x00\x01");
+//! # Ok::<(), scene_log::Refusal>(())
+//! ```
 
 mod c;
 mod refusal;
 mod relation;
+mod typed;
 
 pub use refusal::{LogRefused, Refusal};
 pub use relation::{Relation, Relations};
+pub use typed::{rule_file, rule_from_text, rule_text, text_from_rule};
 
 use std::fmt;
 
@@ -45,6 +55,8 @@ pub const WORK_BYTES: usize = 16384;
 pub const VERDICT_BYTES: usize = 256;
 pub const TEXT_BYTES: usize = 2048;
 pub const RECORD_BYTES: usize = 2628;
+pub const RULE_BYTES: usize = 599;
+pub const RULE_TEXT_BYTES: usize = 4096;
 
 /// Whether the rule is true of the lines up to a line.
 #[derive(Clone, Copy, PartialEq, Eq, PartialOrd, Ord, Hash, Debug)]

@@ -41,12 +41,13 @@ pub enum Refusal {
     NoFinishedRun = 22,
     SameRun = 23,
     NoTally = 24,
+    RuleGrammar = 25,
 }
 
 use Refusal::*;
 
 /// All refusals, in the order of their numbers, each with its sentence.
-const ALL: [(Refusal, &str); 24] = [
+const ALL: [(Refusal, &str); 25] = [
     (RuleEndsEarly, "the rule file ends before the next part is whole"),
     (RuleMark, "the rule file's mark is not RUL"),
     (RuleVersion, "the rule file's version is not 1"),
@@ -71,10 +72,11 @@ const ALL: [(Refusal, &str); 24] = [
     (NoFinishedRun, "a run number has no finished run"),
     (SameRun, "both numbers name the same finished run"),
     (NoTally, "the tally's counts are not the record's, or its failing lines exceed its lines"),
+    (RuleGrammar, "the typed rule is outside the grammar or longer than 4,096 bytes"),
 ];
 
 impl Refusal {
-    /// The number on the list, 1 to 24.
+    /// The number on the list, 1 to 25.
     pub fn number(self) -> u8 {
         self as u8
     }
@@ -129,7 +131,7 @@ mod tests {
     fn every_number_names_its_refusal() {
         for number in 0..=u8::MAX {
             let named = Refusal::from_number(number).map(Refusal::number);
-            assert_eq!(named, (1..=24).contains(&number).then_some(number));
+            assert_eq!(named, (1..=25).contains(&number).then_some(number));
         }
     }
 }

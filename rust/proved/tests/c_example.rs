@@ -1,6 +1,6 @@
 //! The C header declares what the archive has: the example beside it is compiled, linked and run.
 
-use scene_log::Refusal;
+use scene_log::{Refusal, RECORD_BYTES, RULE_BYTES, RULE_TEXT_BYTES, TEXT_BYTES, VERDICT_BYTES, WORK_BYTES};
 use std::path::Path;
 use std::process::Command;
 
@@ -21,6 +21,7 @@ fn the_c_example_prints_what_was_worked_out() {
     let run = Command::new(&program).output().unwrap();
     std::fs::remove_file(&program).unwrap();
     assert!(run.status.success());
+    // The rule is refused without its point and what follows it. Written out, each "exist" has one name and brackets round it.
     // Run 1 is before run 2, which is finished at line 4; up to there one run at most is finished, and none is before another. The
     // same line by line; then the end of run 2 comes a second time. Of the other log four lines are taken: its run 1 begins first
     // and ends while run 2 is on, so none is before the other.
@@ -28,18 +29,29 @@ fn the_c_example_prints_what_was_worked_out() {
     assert_eq!(String::from_utf8(run.stdout).unwrap(), expected);
 }
 
-/// The sentences of the refusals and the version, from the header and from this crate.
+/// The sentences of the refusals, the buffers' lengths and the version, from the header and from this crate.
 #[test]
 fn the_header_says_what_this_crate_says() {
     let root = Path::new(env!("CARGO_MANIFEST_DIR")).join("../..");
     let header = std::fs::read_to_string(root.join("include/scene_log.h")).unwrap();
     let version = format!("#define SCENE_LOG_VERSION \"{}\"", env!("CARGO_PKG_VERSION"));
     assert!(header.lines().any(|line| line == version), "{version}");
+    for (name, length) in [
+        ("WORK_BYTES", WORK_BYTES),
+        ("VERDICT_BYTES", VERDICT_BYTES),
+        ("TEXT_BYTES", TEXT_BYTES),
+        ("RECORD_BYTES", RECORD_BYTES),
+        ("RULE_BYTES", RULE_BYTES),
+        ("RULE_TEXT_BYTES", RULE_TEXT_BYTES),
+    ] {
+        let stated = format!("#define SCENE_LOG_{name} {length}");
+        assert!(header.lines().any(|line| line == stated), "{stated}");
+    }
     let (_, texts) = header.split_once("\"no refusal\",\n").unwrap();
     let (texts, _) = texts.split_once("};").unwrap();
     let plain = |line: &str| line.trim().replace("\\\"", "'");
     let in_header: Vec<String> = texts.lines().map(plain).filter(|line| !line.is_empty()).collect();
-    let refusals = (1..=24).map(|number| Refusal::from_number(number).unwrap());
+    let refusals = (1..=25).map(|number| Refusal::from_number(number).unwrap());
     let here: Vec<String> = refusals.map(|refusal| format!("\"{}\",", refusal.to_string().replace('"', "'"))).collect();
     assert_eq!(in_header, here);
 }

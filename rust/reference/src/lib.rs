@@ -12,19 +12,19 @@
 //! - `record`: the carried record and the pair bytes, and whether they are real (21).
 //! - `calls`: the calls, with their refusals in order and what they leave in each buffer.
 //! - `report`: the whole output of the check program.
-//! - `listing`: a rule file from a readable listing.
+//! - `typed`: a rule file from a rule typed by hand, and its text (25).
 
 pub mod calls;
 pub mod formula;
 pub mod line;
-pub mod listing;
 pub mod record;
 pub mod relation;
 pub mod report;
 pub mod rule;
 pub mod trace;
+pub mod typed;
 
-/// A number on the paper's list of refusals, 1 to 24.
+/// A number on the paper's list of refusals, 1 to 25.
 pub type Refusal = u8;
 
 /// "At most 128 runs and 64 labels".

@@ -19,7 +19,7 @@ pub const SAME: u8 = 8;
 /// "label count 0 to 16", "node count 1 to 64", "Variables are 0 to 3".
 pub const MAX_RULE_LABELS: usize = 16;
 pub const MAX_NODES: usize = 64;
-pub const LAST_VARIABLE: u8 = 3;
+const LAST_VARIABLE: u8 = 3;
 
 /// "At most four "some" nodes lie one inside another."
 pub const MAX_NESTED: usize = 4;
@@ -143,13 +143,13 @@ pub fn read_rule(file: &[u8]) -> Result<Rule, Refusal> {
     if !rest.0.is_empty() {
         return Err(7);
     }
-    if first_node_not_named_once(&nodes).is_some() {
+    if has_node_not_named_once(&nodes) {
         return Err(8);
     }
-    if first_unbound_node(&nodes).is_some() {
+    if has_unbound_variable(&nodes) {
         return Err(9);
     }
-    if first_node_nested_too_deep(&nodes).is_some() {
+    if has_five_nested(&nodes) {
         return Err(10);
     }
     Ok(Rule { labels, nodes })
@@ -157,7 +157,7 @@ pub fn read_rule(file: &[u8]) -> Result<Rule, Refusal> {
 
 /// Whether the kind and both fields are in range: "A child is the number of an
 /// earlier node. Variables are 0 to 3." And "b not 0 under "not"" is outside.
-pub fn is_node(node: Node, number: usize, label_count: usize) -> bool {
+fn is_node(node: Node, number: usize, label_count: usize) -> bool {
     let is_child = |field: u8| usize::from(field) < number;
     let is_variable = |field: u8| field <= LAST_VARIABLE;
     match node.kind {
@@ -191,9 +191,9 @@ fn used_variables(node: Node) -> Vec<u8> {
 
 /// 8: "The last node is the root; every other node is named by exactly one field
 /// of one later node."
-pub fn first_node_not_named_once(nodes: &[Node]) -> Option<usize> {
+fn has_node_not_named_once(nodes: &[Node]) -> bool {
     let named: Vec<usize> = nodes.iter().flat_map(|node| children(*node)).collect();
-    (0..nodes.len() - 1).find(|number| named.iter().filter(|name| *name == number).count() != 1)
+    (0..nodes.len() - 1).any(|number| named.iter().filter(|name| **name == number).count() != 1)
 }
 
 /// The nodes around this one, innermost first. Asked only of a table that passed 8.
@@ -208,21 +208,21 @@ fn nodes_around(nodes: &[Node], number: usize) -> Vec<usize> {
 }
 
 /// 9: "Every variable used stands inside a "some" that binds it".
-pub fn first_unbound_node(nodes: &[Node]) -> Option<usize> {
-    (0..nodes.len()).find(|number| {
-        let around = nodes_around(nodes, *number);
+fn has_unbound_variable(nodes: &[Node]) -> bool {
+    (0..nodes.len()).any(|number| {
+        let around = nodes_around(nodes, number);
         let is_bound =
             |variable: u8| around.iter().any(|outer| nodes[*outer].kind == SOME && nodes[*outer].a == variable);
-        used_variables(nodes[*number]).into_iter().any(|variable| !is_bound(variable))
+        used_variables(nodes[number]).into_iter().any(|variable| !is_bound(variable))
     })
 }
 
 /// 10: "five "some" nodes nested".
-pub fn first_node_nested_too_deep(nodes: &[Node]) -> Option<usize> {
-    (0..nodes.len()).find(|number| {
-        let around = nodes_around(nodes, *number);
+fn has_five_nested(nodes: &[Node]) -> bool {
+    (0..nodes.len()).any(|number| {
+        let around = nodes_around(nodes, number);
         let nested = around.iter().filter(|outer| nodes[**outer].kind == SOME).count();
-        nodes[*number].kind == SOME && nested >= MAX_NESTED
+        nodes[number].kind == SOME && nested >= MAX_NESTED
     })
 }
 

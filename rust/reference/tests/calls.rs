@@ -1,15 +1,14 @@
 //! The calls: refusals in the paper's order, answers, and what each buffer holds after.
 
 use reference::calls::*;
-use reference::listing::rule_file;
 use reference::record::{pair_bytes, record_of, Record};
 use reference::trace::accepted_lines;
+use reference::typed::rule_file;
 use reference::{PAIR_BYTES, VERDICT_BYTES};
 
 /// No EVENING includes a TEST.
 fn p1() -> Vec<u8> {
-    rule_file("label EVENING\nlabel TEST\nhas 0 0\nhas 1 1\nand 0 1\nincludes 0 1\nand 2 3\nsome 1 4\nsome 0 5\nnot 6\n")
-        .unwrap()
+    rule_file(b"!exist A, B . A('EVENING') & B('TEST') & A i B").unwrap()
 }
 
 const P1_LOG: &str = "B 7 EVENING\nB 9 TEST\nE 9\nE 7\n";

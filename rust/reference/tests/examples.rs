@@ -1,4 +1,4 @@
-//! Each folder of examples: the listing makes the rule file, and the output for the
+//! Each folder of examples: the typed rule makes the rule file, and the output for the
 //! rule file and the log is the expected one.
 
 use std::fs;
@@ -23,11 +23,11 @@ fn every_folder_has_what_a_lesson_needs() {
 }
 
 #[test]
-fn every_listing_makes_the_rule_file_beside_it() {
+fn every_typed_rule_makes_the_rule_file_beside_it() {
     for folder in folders() {
-        let listing = fs::read_to_string(folder.join("rule.txt")).unwrap();
+        let typed = fs::read(folder.join("rule.txt")).unwrap();
         let file = fs::read(folder.join("rule.rul")).unwrap();
-        assert_eq!(reference::listing::rule_file(&listing), Ok(file), "{}", folder.display());
+        assert_eq!(reference::typed::rule_file(&typed), Ok(file), "{}", folder.display());
     }
 }
 

@@ -1,14 +1,13 @@
 //! The program's whole output: P1, P9, P10, the misreadings and the edges.
 
-use reference::listing::rule_file;
 use reference::report::report;
+use reference::typed::rule_file;
 
-const P1: &str =
-    "label EVENING\nlabel TEST\nhas 0 0\nhas 1 1\nand 0 1\nincludes 0 1\nand 2 3\nsome 1 4\nsome 0 5\nnot 6\n";
+const P1: &str = "!exist A, B . A('EVENING') & B('TEST') & A i B";
 
 /// The verdict letters and refusal of the output, without line numbers, and the T line.
-fn output(listing: &str, log: &str) -> String {
-    let text = String::from_utf8(report(&rule_file(listing).unwrap(), log.as_bytes())).unwrap();
+fn output(rule: &str, log: &str) -> String {
+    let text = String::from_utf8(report(&rule_file(rule.as_bytes()).unwrap(), log.as_bytes())).unwrap();
     let mut short = Vec::new();
     for (index, line) in text.lines().enumerate() {
         match line.split_once(' ').unwrap() {
@@ -25,7 +24,7 @@ fn output(listing: &str, log: &str) -> String {
 
 #[test]
 fn p1() {
-    let rule = rule_file(P1).unwrap();
+    let rule = rule_file(P1.as_bytes()).unwrap();
     assert_eq!(rule.len(), 44);
     let text = report(&rule, b"B 7 EVENING\nB 9 TEST\nE 9\nE 7\n");
     assert_eq!(String::from_utf8(text).unwrap(), "1 H\n2 H\n3 H\n4 F\nT 4 2 2 0 1\n");
@@ -38,16 +37,16 @@ fn p9() {
 
 #[test]
 fn p10() {
-    assert_eq!(output("same 0 0\nsome 0 0\n", "B 1\nE 1\n"), "F F T 2 1 1 0 2");
+    assert_eq!(output("exist A . same(A,A)", "B 1\nE 1\n"), "F F T 2 1 1 0 2");
     // With a label it is the same as itself.
-    assert_eq!(output("same 0 0\nsome 0 0\n", "B 1 A\nE 1\n"), "F H T 2 1 1 0 1");
+    assert_eq!(output("exist A . same(A,A)", "B 1 A\nE 1\n"), "F H T 2 1 1 0 1");
 }
 
 #[test]
 fn a_refused_rule_prints_one_line() {
     assert_eq!(report(b"", b"B 1\n"), b"0 R1\n");
     assert_eq!(report(b"RUX", b"B 1\n"), b"0 R2\n");
-    let mut longer = rule_file(P1).unwrap();
+    let mut longer = rule_file(P1.as_bytes()).unwrap();
     longer.push(0);
     assert_eq!(report(&longer, b""), b"0 R7\n");
 }
@@ -88,27 +87,27 @@ fn an_open_run_does_not_end_at_the_last_line() {
 
 #[test]
 fn two_missing_labels_are_not_the_same() {
-    let some_same = "before 0 1\nsame 0 1\nand 0 1\nsome 1 2\nsome 0 3\n";
+    let some_same = "exist A, B . A < B & same(A,B)";
     assert_eq!(output(some_same, "B 1\nE 1\nB 2\nE 2\n"), "F F F F T 4 2 2 0 4");
     assert_eq!(output(some_same, "B 1 A\nE 1\nB 2 A\nE 2\n"), "F F F H T 4 2 2 0 3");
 }
 
 #[test]
 fn a_failed_verdict_is_not_kept_for_good() {
-    let no_test_without_a_run_after_it = "label TEST\nhas 0 0\nbefore 0 1\nsome 1 1\nnot 2\nand 0 3\nsome 0 4\nnot 5\n";
+    let no_test_without_a_run_after_it = "!exist A . A('TEST') & !exist B . A < B";
     assert_eq!(output(no_test_without_a_run_after_it, "B 1 TEST\nE 1\nB 2\nE 2\n"), "H F F H T 4 2 2 0 2");
 }
 
 #[test]
 fn one_run_inside_another_includes_it_and_does_not_overlap_it() {
-    let some_pair = |word: &str| format!("{word} 0 1\nsome 1 0\nsome 0 1\n");
-    for (log, word) in [
-        ("B 1\nE 1\nB 2\nE 2\n", "before"),
-        ("B 1\nB 2\nE 1\nE 2\n", "overlaps"),
-        ("B 1\nB 2\nE 2\nE 1\n", "includes"),
+    let some_pair = |sign: &str| format!("exist A, B . A {sign} B");
+    for (log, sign) in [
+        ("B 1\nE 1\nB 2\nE 2\n", "<"),
+        ("B 1\nB 2\nE 1\nE 2\n", "o"),
+        ("B 1\nB 2\nE 2\nE 1\n", "i"),
     ] {
-        for other in ["before", "overlaps", "includes"] {
-            let expected = if other == word { "F F F H T 4 2 2 0 3" } else { "F F F F T 4 2 2 0 4" };
+        for other in ["<", "o", "i"] {
+            let expected = if other == sign { "F F F H T 4 2 2 0 3" } else { "F F F F T 4 2 2 0 4" };
             assert_eq!(output(&some_pair(other), log), expected, "{log:?} {other}");
         }
     }
@@ -116,7 +115,7 @@ fn one_run_inside_another_includes_it_and_does_not_overlap_it() {
 
 #[test]
 fn log_bytes_past_8192_decide_nothing() {
-    let rule = rule_file(P1).unwrap();
+    let rule = rule_file(P1.as_bytes()).unwrap();
     let mut log: Vec<u8> = Vec::new();
     for n in 0..128 {
         log.extend(format!("B {} {}\n", 65000 + n, "A".repeat(24)).bytes());

@@ -1,5 +1,5 @@
-/* Tries the installed library: NULL with length 0, buffers that are too short, answers of every kind, and the stack that a call
- * takes, on a thread that has no more than the header promises. Prints the most stack taken. Exits with 1 at the first fault. */
+/* Tries the installed library: NULL with length 0, buffers that are too short, answers of every kind, a rule that is typed and
+ * written out, and the stack that a call takes, on a thread that has no more than the header promises. Prints the most stack taken. Exits with 1 at the first fault. */
 #define _GNU_SOURCE
 #include <pthread.h>
 #include <stdio.h>
@@ -18,6 +18,31 @@ static const uint8_t rule[] = {'R', 'U', 'L', 1, 0, 0, 3, 5, 0, 1, 3, 1, 0, 3, 0
 static uint8_t work[SCENE_LOG_WORK_BYTES], verdicts[SCENE_LOG_VERDICT_BYTES], text[SCENE_LOG_TEXT_BYTES];
 static uint8_t record[SCENE_LOG_RECORD_BYTES];
 static uint32_t tally[SCENE_LOG_TALLY_COUNTS];
+static uint8_t made[SCENE_LOG_RULE_BYTES], written[SCENE_LOG_RULE_TEXT_BYTES];
+
+/* A refused call leaves its buffer as it was; any other writes to its front, and leaves the rest. */
+static void try_typed_rules(void) {
+    static const char in_full[] = "(exist A.(exist B.A < B))";
+    scene_log_answer answer;
+    memset(made, UNUSED, sizeof made);
+    memset(written, UNUSED, sizeof written);
+    answer = scene_log_rule_from_text(NULL, 0, OF(made));
+    EXPECT(SCENE_LOG_REFUSAL(answer) == SCENE_LOG_RULE_GRAMMAR && made[0] == UNUSED);
+    answer = scene_log_rule_from_text(BYTES("exist A, B . A < B"), made, sizeof made - 1);
+    EXPECT(SCENE_LOG_REFUSAL(answer) == SCENE_LOG_SHORT_BUFFER && made[0] == UNUSED);
+    answer = scene_log_rule_from_text(BYTES("exist A . A < B"), OF(made));
+    EXPECT(SCENE_LOG_REFUSAL(answer) == SCENE_LOG_RULE_UNBOUND && made[0] == UNUSED);
+    answer = scene_log_rule_from_text(BYTES("exist A, B . A < B"), OF(made));
+    EXPECT(!SCENE_LOG_REFUSED(answer) && SCENE_LOG_VALUE(answer) == sizeof rule);
+    EXPECT(memcmp(made, rule, sizeof rule) == 0 && made[sizeof rule] == UNUSED);
+    answer = scene_log_text_from_rule(NULL, 0, OF(written));
+    EXPECT(SCENE_LOG_REFUSAL(answer) == SCENE_LOG_RULE_ENDS_EARLY && written[0] == UNUSED);
+    answer = scene_log_text_from_rule(OF(rule), written, sizeof written - 1);
+    EXPECT(SCENE_LOG_REFUSAL(answer) == SCENE_LOG_SHORT_BUFFER && written[0] == UNUSED);
+    answer = scene_log_text_from_rule(OF(rule), OF(written));
+    EXPECT(!SCENE_LOG_REFUSED(answer) && SCENE_LOG_VALUE(answer) == sizeof in_full - 1);
+    EXPECT(memcmp(written, in_full, sizeof in_full - 1) == 0 && written[sizeof in_full - 1] == UNUSED);
+}
 
 static void try_answers(void) {
     scene_log_answer answer;
@@ -55,9 +80,9 @@ static void try_answers(void) {
     EXPECT(SCENE_LOG_REFUSAL(scene_log_compose(64, 0)) == SCENE_LOG_NO_SET);
     EXPECT(SCENE_LOG_VALUE(scene_log_converse(SCENE_LOG_INCLUDES)) == SCENE_LOG_DURING);
     EXPECT(SCENE_LOG_REFUSAL(scene_log_converse(256)) == SCENE_LOG_NO_SET);
-    for (number = 1; number <= 24; number++)
+    for (number = 1; number <= 25; number++)
         EXPECT(strcmp(scene_log_refusal_text(number), scene_log_refusal_text(0)) != 0);
-    EXPECT(scene_log_refusal_text(25) == scene_log_refusal_text(0) && scene_log_refusal_text(65536) == scene_log_refusal_text(0));
+    EXPECT(scene_log_refusal_text(26) == scene_log_refusal_text(0) && scene_log_refusal_text(65536) == scene_log_refusal_text(0));
 }
 
 /* ---- the stack */
@@ -180,6 +205,7 @@ static void try_stack(void) {
 int main(int count, char **arguments) {
     (void)arguments;
     try_answers();
+    try_typed_rules();
     if (count == 1)
         try_stack();
     return 0;

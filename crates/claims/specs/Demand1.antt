@@ -88,6 +88,6 @@ pub record Demand1 : Type 0 where
   pub next : (log : List ℕ) (p c : ℕ)
       → Refuses c (nextLine log p ≡ Next.Refused c)
       ((p < length log) × (has? 10 (take lineLimit (drop p log)) ≡ false) × (c ≡ 11)) (advancedFrom log p .place ≡ p)
-  -- "no call changes a byte past those it is stated to write; work bytes past 16,384 never change"; of typed rules it is
-  -- said in `Reading` and `Writing`
+  -- "no call changes a byte past those it is stated to write; work bytes past 16,384 never change"; of typed rules it
+  -- is said in `Reading` and `Writing`
   pub untouched : (w w′ : List ℕ) (n : ℕ) → Lent w w′ n → Beyond n w w′

@@ -1,5 +1,6 @@
 -- The three demands and the typed rules, as four statements about every call (`Calls.antt`, `Typed.antt`): of whatever
--- the calls answer and leave by their contracts. That a call ends and does nothing undefined is proved of every function.
+-- the calls answer and leave by their contracts. That a call ends and does nothing undefined is proved of every
+-- function.
 --
 -- The words of this page, and where they are defined:
 --   Accepted log t      no line of log meets a refusal, and its lines leave the trace t   trace/specs/Trace
@@ -14,7 +15,8 @@
 --   Lent, Beyond        a lent buffer; what stands behind the bytes that a call writes    report/specs/Calls
 --   Grammar.Says text t the text is inside the grammar of typed rules and says the tree t typed_grammar/specs/Grammar
 --   formulaSaid t       the formula that the tree says, each name the level of its exist  typed_grammar/specs/Formula
---   ruleFile, ruleText  the rule file and the text of a formula                           typed_grammar/specs/File, Text
+--   ruleFile            the rule file of a formula                                        typed_grammar/specs/File
+--   ruleText            the text of a formula                                             typed_grammar/specs/Text
 --   MetText             where a typed rule meets a refusal                                typed_grammar/specs/Met
 --   ReadCall, WriteCall, MetWriting   the calls on typed rules; where writing is refused  claims/specs/Typed
 --   ruleOf, formulaOf   the rule of a file that meets no refusal, and its formula         rules/specs/Rules

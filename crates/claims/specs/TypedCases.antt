@@ -1,4 +1,5 @@
--- The worked cases of typed rules: P1's rule, the four properties of document 000, figure 1, and a text for each refusal.
+-- The worked cases of typed rules: P1's rule, the four properties of document 000, figure 1, and texts that tell each
+-- sentence of the request from its misreadings.
 use Prim.Native.Nat.{ℕ}
 use mathlib.Core.Path.{_≡_}
 use mathlib.Core.List.{List, [], _∷_, _++_}
@@ -30,7 +31,8 @@ p1Text = bytes "!exist A, B . A('EVENING') & B('TEST') & A i B"
 -- ── figure 1, from its clean copy: property 1 has `!D`, and `|` where the print has lost it ──
 abbrev pub property1 : List ℕ
 property1 =
-    bytes "!exist B1, B2, D .\n B1('BOOT') & B2('BOOT') & D('DL_IMAGE') &\n B1 < B2 &\n (B1 i D |\n B2 i D |\n (B1 < D & D < B2) |\n (B1 o D & !D i B2) |\n (D o B2 & !D i B1)\n )\n"
+    bytes "!exist B1, B2, D .\n B1('BOOT') & B2('BOOT') & D('DL_IMAGE') &\n B1 < B2 &\n (B1 i D |\n B2 i D |\n"
+    ++ bytes " (B1 < D & D < B2) |\n (B1 o D & !D i B2) |\n (D o B2 & !D i B1)\n )\n"
 
 abbrev pub noImageDuringTwoBoots : Formula
 noImageDuringTwoBoots =
@@ -48,18 +50,23 @@ property2 = bytes "!exist D, F .\n (D('DL_MOBPRM') | D('DL_ARMPRM')) &\n F('DL_F
 abbrev pub noFailDuringParameters : Formula
 noFailDuringParameters =
     neg (exists 0 (exists 1
-    (both (both (or (has 0 (bytes "DL_MOBPRM")) (has 0 (bytes "DL_ARMPRM"))) (has 1 (bytes "DL_FAIL"))) (pair includes 0 1))))
+    (both
+    (both (or (has 0 (bytes "DL_MOBPRM")) (has 0 (bytes "DL_ARMPRM"))) (has 1 (bytes "DL_FAIL")))
+    (pair includes 0 1))))
 
 abbrev pub property3 : List ℕ
 property3 =
-    bytes "!exist O, F, R .\n O('INS_ON') & F('INS_FAIL') & R('INS_RECOVER') &\n O < F & F < R &\n !exist X . (X('INS_ON') | X('INS_RECOVER')) & O < X & X < R\n"
+    bytes "!exist O, F, R .\n O('INS_ON') & F('INS_FAIL') & R('INS_RECOVER') &\n O < F & F < R &\n"
+    ++ bytes " !exist X . (X('INS_ON') | X('INS_RECOVER')) & O < X & X < R\n"
 
 abbrev pub noFailBeforeClosestRecovery : Formula
 noFailBeforeClosestRecovery =
     neg (exists 0 (exists 1 (exists 2
     (both
     (both
-    (both (both (both (has 0 (bytes "INS_ON")) (has 1 (bytes "INS_FAIL"))) (has 2 (bytes "INS_RECOVER"))) (pair before 0 1))
+    (both
+    (both (both (has 0 (bytes "INS_ON")) (has 1 (bytes "INS_FAIL"))) (has 2 (bytes "INS_RECOVER")))
+    (pair before 0 1))
     (pair before 1 2))
     (neg (exists 3
     (both (both (or (has 3 (bytes "INS_ON")) (has 3 (bytes "INS_RECOVER"))) (pair before 0 3)) (pair before 3 2))))))))
@@ -104,7 +111,8 @@ allSigns =
 
 abbrev pub seventeenLabels : List ℕ
 seventeenLabels =
-    bytes "exist A . A('A') & A('B') & A('C') & A('D') & A('E') & A('F') & A('G') & A('H') & A('I') & A('J') & A('K') & A('L') & A('M') & A('N') & A('O') & A('P') & A('Q')"
+    bytes "exist A . A('A') & A('B') & A('C') & A('D') & A('E') & A('F') & A('G') & A('H') & A('I') & A('J') &"
+    ++ bytes " A('K') & A('L') & A('M') & A('N') & A('O') & A('P') & A('Q')"
 
 pub record TypedCases : Type 0 where
   -- P1 typed gives the paper's 44 bytes
@@ -132,7 +140,8 @@ pub record TypedCases : Type 0 where
   -- "`!` binds closest, then `&`, then `|`"
   pub and-before-or : SaysFormula (bytes "exist A . A < A | A o A & A i A")
       (exists 0 (or (pair before 0 0) (both (pair overlaps 0 0) (pair includes 0 0))))
-  pub not-before-and : SaysFormula (bytes "exist A . !A < A & A o A") (exists 0 (both (neg (pair before 0 0)) (pair overlaps 0 0)))
+  pub not-before-and : SaysFormula (bytes "exist A . !A < A & A o A")
+      (exists 0 (both (neg (pair before 0 0)) (pair overlaps 0 0)))
   pub or-behind-and : SaysFormula (bytes "exist A . A o A & A i A | A < A")
       (exists 0 (or (both (pair overlaps 0 0) (pair includes 0 0)) (pair before 0 0)))
   -- ""exist" reaches as far right as it can", over `|` too, and up to the bracket
@@ -146,14 +155,16 @@ pub record TypedCases : Type 0 where
   -- the file of an or, and of a label that comes twice
   pub or-file : bytesOf orText (readText orText) ≡ orFile
   -- all signs and four levels; and a variable bound again
-  pub all-text : ruleText allSigns ≡ bytes "(exist A.(exist B.(exist C.(exist D.!((A < B&!C o D)&(D i B&same(C,D)))))))"
+  pub all-text : ruleText allSigns
+      ≡ bytes "(exist A.(exist B.(exist C.(exist D.!((A < B&!C o D)&(D i B&same(C,D)))))))"
   pub met-4-labels : typedAnswer seventeenLabels 599 ≡ Refused 4
-  pub met-4-nodes : typedAnswer (bytes "!!!!!!!!!!!!!!!!!!!!!!!!!!!!!!!!!!!!!!!!!!!!!!!!!!!!!!!!!!!!!!!exist A . A < A") 599 ≡ Refused 4
+  pub met-4-nodes : typedAnswer (replicate 63 33 ++ bytes "exist A . A < A") 599 ≡ Refused 4
   -- the order: 25, 4, 5, 9, 10
-  pub first-4 : typedAnswer (bytes "!!!!!!!!!!!!!!!!!!!!!!!!!!!!!!!!!!!!!!!!!!!!!!!!!!!!!!!!!!!!!!!!!A('')") 599 ≡ Refused 4
+  pub first-4 : typedAnswer (replicate 65 33 ++ bytes "A('')") 599 ≡ Refused 4
   pub first-5 : typedAnswer (bytes "exist A, B, C, D, E . F('')") 599 ≡ Refused 5
   pub first-9 : typedAnswer (bytes "exist A, B, C, D, E . F('F')") 599 ≡ Refused 9
-  pub again-text : ruleText (exists 0 (both (pair before 0 0) (exists 0 (pair before 0 0)))) ≡ bytes "(exist A.(A < A&(exist B.B < B)))"
+  pub again-text : ruleText (exists 0 (both (pair before 0 0) (exists 0 (pair before 0 0))))
+      ≡ bytes "(exist A.(A < A&(exist B.B < B)))"
   -- the buffer of the text
   pub p1-written : textAnswer p1File 4096 ≡ Length 53
   pub text-20 : textAnswer p1File 4095 ≡ Refused 20

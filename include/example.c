@@ -1,4 +1,5 @@
-/* Checks a log with the rule "some run is before another", which is typed: at once, and line by line. */
+/* Checks a log with the rule "some run is before another", which is typed: at once, and line by line. Then shows the
+ * runs that break the rule "no run is before another". */
 #include <stdio.h>
 #include <string.h>
 #include "scene_log.h"
@@ -77,6 +78,30 @@ static int record_of_log(void) {
     return 1;
 }
 
+/* Prints the runs that break a rule which is "not" over "some". The rule up to here is another, and has no slips. */
+static int show_slip(void) {
+    static const char none_before[] = "!exist A, B . A < B";
+    static const char log[] = "B 1\nB 2\nE 1\nB 3\nE 3\nE 2\n";
+    uint8_t slip[SCENE_LOG_SLIP_BYTES];
+    scene_log_answer answer = scene_log_first_slip(rule, rule_length, record, sizeof record, slip, sizeof slip);
+    say_refused("a slip of this rule", SCENE_LOG_REFUSAL(answer));
+    answer = scene_log_rule_from_text((const uint8_t *)none_before, strlen(none_before), rule, sizeof rule);
+    rule_length = SCENE_LOG_VALUE(answer);
+    if (SCENE_LOG_REFUSED(answer))
+        return 0;
+    answer = scene_log_check_log_record(rule, rule_length, (const uint8_t *)log, strlen(log), record, sizeof record,
+                                        work, sizeof work, verdicts, sizeof verdicts);
+    if (SCENE_LOG_REFUSED(answer))
+        return 0;
+    answer = scene_log_first_slip(rule, rule_length, record, sizeof record, slip, sizeof slip);
+    if (SCENE_LOG_REFUSED(answer) || SCENE_LOG_VALUE(answer) != 2)
+        return 0;
+    printf("run %u is before run %u\n", (unsigned)slip[0], (unsigned)slip[1]);
+    answer = scene_log_slip_passes(rule, rule_length, record, sizeof record, slip, 2);
+    puts(SCENE_LOG_VALUE(answer) == 1 ? "the slip passes" : "the slip does not pass");
+    return !SCENE_LOG_REFUSED(answer);
+}
+
 int main(void) {
-    return read_rule() && report_log() && line_by_line() && record_of_log() ? 0 : 1;
+    return read_rule() && report_log() && line_by_line() && record_of_log() && show_slip() ? 0 : 1;
 }

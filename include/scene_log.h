@@ -36,6 +36,7 @@
 #define SCENE_LOG_TALLY_COUNTS 5
 #define SCENE_LOG_RULE_BYTES 599
 #define SCENE_LOG_RULE_TEXT_BYTES 4096
+#define SCENE_LOG_SLIP_BYTES 4
 
 /* The stack that a thread has left where it makes a call; and where it reads a typed rule. */
 #define SCENE_LOG_STACK_BYTES 262144
@@ -107,7 +108,8 @@ enum scene_log_refusal {
     SCENE_LOG_NO_FINISHED_RUN = 22,
     SCENE_LOG_SAME_RUN = 23,
     SCENE_LOG_NO_TALLY = 24,
-    SCENE_LOG_RULE_GRAMMAR = 25
+    SCENE_LOG_RULE_GRAMMAR = 25,
+    SCENE_LOG_RULE_NO_SLIPS = 26
 };
 
 /* The relations between two different finished runs; a set is a sum of them, 0 to 63. */
@@ -154,10 +156,11 @@ static inline const char *scene_log_refusal_text(uint32_t refusal) {
         "the line would bring a 65th label",
         "a lent buffer is shorter than stated",
         "no accepted lines leave this record, or the pair bytes are not that record's",
-        "a run number has no finished run",
+        "a run number has no finished run, or a slip has a wrong number of runs",
         "both numbers name the same finished run",
         "the tally's counts are not the record's, or its failing lines exceed its lines",
         "the typed rule is outside the grammar or longer than 4,096 bytes",
+        "the rule is not a \"not\" over one to four \"some\" over a part without \"some\"",
     };
     return texts[refusal < sizeof texts / sizeof *texts ? refusal : 0];
 }
@@ -237,6 +240,27 @@ scene_log_verdict scene_log_check_line_tallied(const uint8_t *rule, size_t rule_
  * Runs are numbered from 0 in the order of their begin lines. */
 SCENE_LOG_CALL SCENE_LOG_NOT_NULL(1)
 scene_log_answer scene_log_relate(const uint8_t *record, size_t record_length, uint32_t first, uint32_t second);
+
+/* A slip shows which runs break a rule. The rule is a "not" directly over a chain of one to four "some" over a part
+ * without "some"; a slip has one run number, a byte, for each "some", the outermost first. It passes where all its
+ * runs are finished and the part is true of them; where two "some" bind one variable, the inner one's run is meant.
+ * The rule fails with the last line of the record exactly where some slip passes.
+ *
+ * Writes the first slip that passes to the start of slip, which has at least SCENE_LOG_SLIP_BYTES: first by the number
+ * of the outermost run, then by that of the next. Value: how many runs it has, 1 to 4, or 0 where none passes and
+ * nothing is written; the bytes behind the slip stay as they are. Refused with 20, the rule's 1 to 10, 26 or 21, in
+ * this order, and then nothing is written. */
+SCENE_LOG_CALL SCENE_LOG_NOT_NULL(3, 5)
+scene_log_answer scene_log_first_slip(const uint8_t *rule, size_t rule_length,
+                                      const uint8_t *record, size_t record_length, uint8_t *slip, size_t slip_length);
+
+/* Value: 1 where a slip passes, whoever wrote it, and 0 where it does not. Its length is its number of runs. Refused
+ * with 20 (for the record alone), the rule's 1 to 10, 26, 21, or 22 for a wrong number of runs or a run that is not
+ * finished, in this order. */
+SCENE_LOG_CALL SCENE_LOG_NOT_NULL(3)
+scene_log_answer scene_log_slip_passes(const uint8_t *rule, size_t rule_length,
+                                       const uint8_t *record, size_t record_length,
+                                       const uint8_t *slip, size_t slip_length);
 
 /* Value: the composition of two sets of relations; the converses of a set's members. Refused with 14 where a set is above 63. */
 SCENE_LOG_CALL scene_log_answer scene_log_compose(uint32_t first, uint32_t second);

@@ -7,6 +7,8 @@ pub mod Refusals
 pub mod Verdicts
 pub mod Lessons
 pub mod TypedCases
+pub mod SlipCases
 pub mod Worked
 pub mod Typed
+pub mod Slips
 pub mod Claims

@@ -63,7 +63,7 @@ use Rattle.claims.proofs.Untouched.{untouched-bytes}
 pub rule-range : (file : List ℕ) (n : ℕ) → ruleOf file ≡ RuleRead.Refused n → (1 ≤ n) × (n ≤ 10)
 rule-range file n e = reads-rule file (RuleRead.Refused n) (sym e) .refused n refl
 
-rule-number : (file : List ℕ) (n : ℕ) → ruleOf file ≡ RuleRead.Refused n → Listed n
+pub rule-number : (file : List ℕ) (n : ℕ) → ruleOf file ≡ RuleRead.Refused n → Listed n
 rule-number file n e = let r = rule-range file n e in omega arith
 
 -- ── one line ──
@@ -217,7 +217,7 @@ relate-listed r a b c (relate-unfinished log t k s f e) = omega arith
 relate-listed r a b c (relate-same log t k s f q e) = omega arith
 
 -- a call that is lent nothing
-lent-nothing : {A M : Type 0} (c : ℕ) → (A ↔ M) → (M → Listed c) → Refuses c A M (Unit {0})
+pub lent-nothing : {A M : Type 0} (c : ℕ) → (A ↔ M) → (M → Listed c) → Refuses c A M (Unit {0})
 lent-nothing c m l = record { listed = λ e. l (m .0 e); just-where = m; changes-nothing = λ _. tt }
 
 bytes-met : (line : List ℕ) (c : ℕ) → (parsedOf line ≡ Parsed.Refused c) ↔ MetBytes line c

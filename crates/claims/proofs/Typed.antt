@@ -53,7 +53,7 @@ use Rattle.rule_text.specs.Text as Text
 use Rattle.typed_meaning.proofs.TextMet.{says-one, refused-met, met-refused, refused-numbers, written-said}
 use Rattle.round_trip.proofs.Trip.{read-again}
 use Rattle.report.specs.Calls.{Beyond}
-use Rattle.claims.specs.Demand1.{Refuses}
+use Rattle.claims.specs.Demand1.{Listed, Refuses}
 use Rattle.claims.specs.Typed.{ReadCall, WriteCall, MetWriting, short-buffer, rule, JudgedBy, Reading, Again, Writing, TypedRules}
 use Rattle.claims.proofs.Untouched.{put-bytes}
 
@@ -96,7 +96,7 @@ module _ (k : ReadCall) where
 
   reading-refused : (c : ℕ) → Refuses c (k .answer ≡ Refused c) (MetText (k .text) (length (k .rule)) c) (k .rule′ ≡ k .rule)
   reading-refused c = record {
-    listed = λ e. refused-numbers (k .text) (length (k .rule)) c (sym (k .reads .answer) ∙ e);
+    listed = λ e. let n = refused-numbers (k .text) (length (k .rule)) c (sym (k .reads .answer) ∙ e) in omega arith;
     just-where = (λ e. refused-met (k .text) (length (k .rule)) c (sym (k .reads .answer) ∙ e), λ m. k .reads .answer ∙ met-refused (k .text) (length (k .rule)) c m);
     changes-nothing = λ e. kept _ (k .rule) (k .rule′) (k .answer) (k .reads .left) c e;
   }
@@ -153,7 +153,7 @@ module _ (file : List ℕ) (room : ℕ) where
   writing-met c (short-buffer h q) = text-short h ∙ ap Refused (sym q)
   writing-met c (rule h m) = text-long h ∙ ap (Text.answerOf file) (rule-met file c .1 m)
 
-  writing-listed : (c : ℕ) → MetWriting file room c → (1 ≤ c) × (c ≤ 25)
+  writing-listed : (c : ℕ) → MetWriting file room c → Listed c
   writing-listed c (short-buffer h q) = (omega arith, omega arith)
   writing-listed c (rule h m) = let n = rule-refused file c (rule-met file c .1 m) in (omega (arith, n .0), omega (arith, n .1))
 

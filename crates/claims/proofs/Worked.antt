@@ -35,6 +35,7 @@ use Rattle.report.proofs.Examples.{p1-output}
 use Rattle.whole_log.specs.Cases.{Long, pairByte1, p1Log, p1Run, p1Trace}
 use Rattle.claims.specs.Cases.{P1, P9, P10, Numbers, Cases}
 use Rattle.claims.proofs.TypedCases.{typed-cases}
+use Rattle.claims.proofs.SlipCases.{slip-cases}
 
 -- the call reads the lines
 reads : (file : List ℕ) (x : Rule) → ruleOf file ≡ RuleRead.Rule x → (log w out : List ℕ) → Long w out → logOf file log w out ≡ linesFrom file x noTrace (linesOf log) w out
@@ -100,4 +101,4 @@ unfolding value
 the-numbers = record { most = refl; in-order = refl; holds = (refl, refl); fails = (refl, refl) }
 
 pub the-cases : Cases
-the-cases = record { p1 = p1-case; p2-to-p8 = examples; p9 = p9-case; p10 = p10-case; numbers = the-numbers; typed = typed-cases }
+the-cases = record { p1 = p1-case; p2-to-p8 = examples; p9 = p9-case; p10 = p10-case; numbers = the-numbers; typed = typed-cases; slips = slip-cases }

@@ -21,6 +21,7 @@ use Rattle.whole_log.specs.Cases.{Long, pairByte1, p1Log, p1Trace}
 use Rattle.tallies.specs.Tally.{tallyAfter}
 use Rattle.report.specs.Text.{reportText}
 use Rattle.claims.specs.TypedCases.{TypedCases}
+use Rattle.claims.specs.SlipCases.{SlipCases}
 
 pub record P1 : Type 0 where
   pub size : length p1File ≡ 44
@@ -66,3 +67,4 @@ pub record Cases : Type 0 where
   pub p10 : P10
   pub numbers : Numbers
   pub typed : TypedCases
+  pub slips : SlipCases

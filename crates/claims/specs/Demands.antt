@@ -1,5 +1,5 @@
--- The three demands and the typed rules, as four statements about every call (`Calls.antt`, `Typed.antt`): of whatever
--- the calls answer and leave by their contracts. That a call ends and does nothing undefined is proved of every
+-- The three demands, the typed rules and the slips, as five statements about every call (`Calls.antt`, `Typed.antt`,
+-- `Slips.antt`): of whatever the calls answer and leave by their contracts. That a call ends and does nothing undefined is proved of every
 -- function.
 --
 -- The words of this page, and where they are defined:
@@ -19,6 +19,9 @@
 --   ruleText            the text of a formula                                             typed_grammar/specs/Text
 --   MetText             where a typed rule meets a refusal                                typed_grammar/specs/Met
 --   ReadCall, WriteCall, MetWriting   the calls on typed rules; where writing is refused  claims/specs/Typed
+--   SlipForm f          "not" over a chain of "some" over a part without "some"             slip_form/specs/Form
+--   Passes, FirstSlip   a slip passes; it is the first that does                          slip_form/specs/Slips
+--   MetFinding, MetPassing   where the calls on slips are refused                         claims/specs/Slips
 --   ruleOf, formulaOf   the rule of a file that meets no refusal, and its formula         rules/specs/Rules
 --   Says t f v          v is "holds" if and only if the lines satisfy the formula f       logic/specs/Verdict
 --   Related r t a b     runs a and b are finished, and their positions give r             logic/specs/Satisfies
@@ -42,6 +45,7 @@ use Rattle.relations.specs.Compose.{Composition, Shown, ShownByThree}
 use Rattle.claims.specs.Demand1.{Demand1}
 use Rattle.claims.specs.Demand2.{Demand2}
 use Rattle.claims.specs.Typed.{TypedRules}
+use Rattle.claims.specs.Slips.{Slips}
 
 -- "Take any of the 64 × 64 pairs of sets of relations, the empty set included, and any relation. That relation is in
 -- the composition that we report for the pair exactly when some accepted log, of any length, has three different
@@ -64,3 +68,5 @@ pub record Demands : Type 0 where
   pub third : Demand3
   -- rules typed by hand, and written out again
   pub typed : TypedRules
+  -- the runs that make a rule fail
+  pub slips : Slips

@@ -2,7 +2,9 @@ pub mod WhereMet
 pub mod Demand1
 pub mod Demand2
 pub mod Typed
+pub mod Slips
 pub mod Demands
 pub mod Lessons
 pub mod TypedCases
+pub mod SlipCases
 pub mod Cases

@@ -196,8 +196,8 @@ fn opened(
     }
 }
 
-// A set without runs at which variable v makes the formula of a node false at all moments.
-fn kept(
+// A set without runs at which variable v makes the formula of a node false at all moments: what a search leaves out.
+pub fn kept(
     file: &[u8],
     first: usize,
     heights: &[u8],

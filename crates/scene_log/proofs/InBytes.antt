@@ -46,7 +46,7 @@ use Rattle.answer_numbers.proofs.Numbered.{packed, byte-above, byte-same}
 use Rattle.scene_log.specs.InBytes.{startNumbered, StartsNumber, ChecksBytes, ChecksLineNumber, ChecksTalliedBytes, ChecksTalliedNumber, KeepsLog, KeepsLogNumber, NumbersRuns, RelatesBytes, RelatesNumber}
 
 -- ── a buffer that is long enough ──
-unpacked : (b : List ℕ) (u : Unpacked) → recordSize ≤ length b → Unpacks b u → u .state ≡ recordFrom b
+pub unpacked : (b : List ℕ) (u : Unpacked) → recordSize ≤ length b → Unpacks b u → u .state ≡ recordFrom b
 unfolding unpackOf
 unpacked b u h k = ap (λ (z : Unpacked). z .state) (k .answer) ∙ simp (le-ltb _ _ h)
 

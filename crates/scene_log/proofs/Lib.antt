@@ -2,3 +2,4 @@
 mod Numbered
 mod InBytes
 pub mod Texts
+mod Slips

@@ -1,3 +1,4 @@
 pub mod Numbers
 pub mod InBytes
 pub mod Texts
+pub mod Slips

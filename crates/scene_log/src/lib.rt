@@ -3,11 +3,12 @@
 // A slice is a pointer and a length in C (`include/scene_log.h`). Every call takes any input. An answer that is an enum in the
 // library is a number here; `answer_numbers` says which: 65,536 times a refusal, anything else below 65,536. `specs/Numbers.antt`
 // has the contracts. The carried record is 2,628 bytes, in the form of `record_bytes`, and a tally is five numbers;
-// `specs/InBytes.antt` has the contracts of the calls that take them.
+// `specs/InBytes.antt` has the contracts of the calls that take them. A slip is a byte a run; `specs/Slips.antt` has its contracts.
 ghost use mathlib.Core.Path.{_≡_};
 ghost use Rattle.labels.specs.Fnv.{fnvOf};
 ghost use Rattle.scene_log.specs.Numbers.{ComposesNumbers, ConversesNumber, ChecksLogNumber, ReportsNumber};
 ghost use Rattle.scene_log.specs.Texts.{ReadsTextNumber, WritesTextNumber};
+ghost use Rattle.scene_log.specs.Slips.{FindsNumber, PassesNumber};
 ghost use Rattle.scene_log.specs.InBytes.{StartsNumber, ChecksLineNumber, ChecksTalliedNumber, KeepsLogNumber, RelatesNumber};
 use pairs::Start;
 use trace::RunNo;
@@ -17,6 +18,9 @@ const RECORD_BYTES: usize = record_bytes::RECORD_BYTES;
 
 // The numbers of a tally.
 const TALLY_COUNTS: usize = 5;
+
+// The fewest bytes of a buffer for a slip.
+const SLIP_BYTES: usize = rule_file::MAX_NESTED;
 
 // The refusal of a lent buffer that is too short.
 const TOO_SHORT: u32 = 20 * answer_numbers::REFUSAL_STEP;
@@ -165,6 +169,39 @@ pub extern "C" fn scene_log_relate(carried: &[u8], a: u32, b: u32) -> u32
         RunNo(answer_numbers::as_byte(b)),
     );
     answer_numbers::relation_number(x)
+}
+
+// The first slip of a rule file and a record in bytes: how many runs it has, with their numbers in the first bytes; 0 for none; or the
+// refusal.
+#[no_mangle]
+pub extern "C" fn scene_log_first_slip(rule: &[u8], carried: &[u8], slip: &mut [u8]) -> u32
+    ensures { λ n. ⌜ FindsNumber (now (rule .entry)) (now (carried .entry)) (now (slip .entry)) n (now (slip .exit)) ⌝ }
+{
+    if carried.len() < RECORD_BYTES {
+        return TOO_SHORT;
+    }
+    if slip.len() < SLIP_BYTES {
+        return TOO_SHORT;
+    }
+    let u = record_bytes::unpack(carried);
+    let state = u.state;
+    let a = slips::first_slip(rule, state);
+    slip_bytes::keep_slip(a, slip)
+}
+
+// Whether a slip in bytes, a run a byte, passes for a rule file and a record in bytes: 1 it does, 0 it does not, or the refusal.
+#[no_mangle]
+pub extern "C" fn scene_log_slip_passes(rule: &[u8], carried: &[u8], slip: &[u8]) -> u32
+    ensures { λ n. ⌜ PassesNumber (now (rule .entry)) (now (carried .entry)) (now (slip .entry)) n ⌝ }
+{
+    if carried.len() < RECORD_BYTES {
+        return TOO_SHORT;
+    }
+    let u = record_bytes::unpack(carried);
+    let state = u.state;
+    let x = slip_bytes::slip_from(slip);
+    let a = slips::passes(rule, state, x);
+    slip_bytes::passing_number(a)
 }
 
 // The composition of two sets of relations, or the refusal.

@@ -32,7 +32,7 @@ use Rattle.timeline.specs.AllLines.{JudgesFrom}
 use Rattle.timeline.proofs.AllLines.{done-few, line-says}
 
 -- a number for each label of a rule file, as searches in a record find them
-abbrev Found : List ℕ → Rule → Record → List ℕ → Type 0
+abbrev pub Found : List ℕ → Rule → Record → List ℕ → Type 0
 Found file x r wanted = (p : ℕ) → p < x .labels → getD wanted p 0 ≡ slotNumber (lookup (r .labels) (labelOf (labelBytes file p)))
 
 lines-are : (r : Record) (u : Trace) → r ≡ recordOf u → r .lines .0 ≡ u .lines
@@ -40,11 +40,11 @@ unfolding recordOf
 lines-are r u e = ap (λ (q : Record). q .lines .0) e
 
 module _ (log : List ℕ) (u : Trace) (a : Accepted log u) (r : Record) (e : r ≡ recordOf u) where
-  order-holds : (o : Order) → Orders (r .runs) (r .lines .0) o → OrderHeld (orderTo (u .runs)) (u .lines) o
+  pub order-holds : (o : Order) → Orders (r .runs) (r .lines .0) o → OrderHeld (orderTo (u .runs)) (u .lines) o
   order-holds o h =
       subst (λ (n : ℕ). OrderHeld (orderTo (u .runs)) n o) (lines-are r u e) (h .meaning log u a (ap (λ (q : Record). q .runs) e) (lines-are r u e))
 
-  wanted-in : (file : List ℕ) (x : Rule) (wanted : List ℕ) → Taken file x → Found file x r wanted → WantedIn u file wanted
+  pub wanted-in : (file : List ℕ) (x : Rule) (wanted : List ℕ) → Taken file x → Found file x r wanted → WantedIn u file wanted
   wanted-in file x wanted taken found p h =
       found p (omega (arith, taken .labels))
       ∙ (ap (λ (q : Record). slotNumber (lookup (q .labels) (labelOf (labelBytes file p)))) e ∙ label-found u (accepted-bounded log u a) (labelBytes file p))

@@ -1,8 +1,8 @@
 //! Times of the proved check, of a plain evaluator and of the published algorithm on the same rules and logs, side by side.
 //!
 //! `cargo run --release -p bench` prints a table for each group of rules, the noise, and whether the times are as required.
-//! `--quick` stops at 32 runs; `--group NAME` measures one group: reading, figure1, section3, worst or typed. Times differ
-//! between machines; the ratios much less. `docs/PERFORMANCE.md` says what each column is.
+//! `--quick` stops at 32 runs; `--group NAME` measures one group: reading, figure1, section3, worst, typed or slips.
+//! Times differ between machines; the ratios much less. `docs/PERFORMANCE.md` says what each column is.
 
 #[cfg(test)]
 mod agree;
@@ -14,6 +14,7 @@ mod measure;
 mod plain;
 mod published;
 mod rules;
+mod slips;
 mod table;
 mod trace;
 mod typed;
@@ -56,16 +57,18 @@ fn all_kinds(property: usize) -> [Measured; 4] {
 }
 
 /// The names of the groups, as `--group` takes them, and their headings.
-const GROUPS: [(&str, &str); 5] = [
+const GROUPS: [(&str, &str); 6] = [
     ("reading", "Reading"),
     ("figure1", "The properties of figure 1"),
     ("section3", "The properties of section 3"),
     ("worst", "The worst rules"),
     (TYPED, "Typed rules"),
+    (SLIPS, "Slips"),
 ];
 
-/// The group that has texts instead of logs.
+/// The groups with tables of their own: that which has texts instead of logs, and that of the runs that break a rule.
 const TYPED: &str = "typed";
+const SLIPS: &str = "slips";
 
 fn group(name: &str) -> Vec<Measured> {
     match name {
@@ -144,7 +147,7 @@ fn options() -> Result<Options, String> {
         }
     }
     if options.groups.is_empty() {
-        return Err("the groups are reading, figure1, section3, worst and typed".into());
+        return Err("the groups are reading, figure1, section3, worst, typed and slips".into());
     }
     Ok(options)
 }
@@ -160,7 +163,8 @@ fn main() -> ExitCode {
     let (rule, log) = (two_nodes().file, interleaved(MAX_RUNS, &LABELS));
     let mut noise = Noise::default();
     noise.measure("beginning", &rule, &log);
-    let (typed, groups): (Vec<_>, Vec<_>) = groups.into_iter().partition(|(name, _)| *name == TYPED);
+    let (own, groups): (Vec<_>, Vec<_>) = groups.into_iter().partition(|(name, _)| [TYPED, SLIPS].contains(name));
+    let title_of = |wanted: &str| own.iter().find(|(name, _)| *name == wanted).map(|(_, title)| *title);
     let groups: Vec<_> = groups.iter().map(|(name, title)| (title, group(name))).collect();
     let count: usize = groups.iter().map(|(_, group)| group.len()).sum();
     let mut rows = Vec::new();
@@ -173,8 +177,9 @@ fn main() -> ExitCode {
             rows.extend(rows_of(measured, sizes));
         }
     }
-    let typed = typed.first().map(|(_, title)| typed::measured(title));
+    let typed = title_of(TYPED).map(typed::measured);
+    let slips = title_of(SLIPS).map(|title| slips::measured(title, sizes[sizes.len() - 1])).unwrap_or_default();
     noise.measure("end", &rule, &log);
     print_noise(&noise);
-    if checks::print_checks(&rows, typed.as_ref()) { ExitCode::SUCCESS } else { ExitCode::FAILURE }
+    if checks::print_checks(&rows, typed.as_ref(), &slips) { ExitCode::SUCCESS } else { ExitCode::FAILURE }
 }

@@ -65,14 +65,14 @@ impl NodeList {
     }
 
     /// Two relations of the same runs that never both hold. Each holds of many runs, so neither alone settles anything.
-    fn never(&mut self, x: usize, y: usize) -> usize {
+    pub fn never(&mut self, x: usize, y: usize) -> usize {
         let overlaps = self.node(OVERLAPS, x, y);
         let includes = self.node(INCLUDES, x, y);
         self.and(overlaps, includes)
     }
 
     /// One of the first `length` pairs of `never`: "not" of an "and" of "not"s, five nodes a pair.
-    fn one_of(&mut self, length: usize) -> usize {
+    pub fn one_of(&mut self, length: usize) -> usize {
         let mut none = None;
         for (x, y) in &PAIRS[..length] {
             let pair = self.never(*x, *y);
@@ -99,7 +99,7 @@ impl NodeList {
         file
     }
 
-    fn case(&self, name: &str) -> Case {
+    pub fn case(&self, name: &str) -> Case {
         Case { name: name.into(), file: self.file(), nested: 4 }
     }
 }

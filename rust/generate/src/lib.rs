@@ -6,12 +6,14 @@
 //! against the reference, give it the same case and compare with the answers.
 //!
 //! `texts` has cases of its own for rules typed by hand: `text_case(seed)` for reading a
-//! text, `rule_case(seed)` for writing one.
+//! text, `rule_case(seed)` for writing one. `slips` has those for the runs that break a
+//! rule: `slip_case(seed)`.
 
 pub mod logs;
 pub mod random;
 pub mod records;
 pub mod rules;
+pub mod slips;
 pub mod texts;
 pub mod typed;
 

@@ -5,7 +5,7 @@ use reference::rule::{Node, Rule, AND, BEFORE, HAS_LABEL, INCLUDES, NOT, OVERLAP
 
 /// A rule as a tree; labels by their place in the file's list.
 #[derive(Clone)]
-enum Tree {
+pub(crate) enum Tree {
     And(Box<Tree>, Box<Tree>),
     Not(Box<Tree>),
     Some(u8, Box<Tree>),
@@ -39,27 +39,27 @@ pub fn longest_rule(random: &mut Random) -> Rule {
     Rule { labels, nodes: nodes_of(random, &some(0, tree)) }
 }
 
-fn and(first: Tree, second: Tree) -> Tree {
+pub(crate) fn and(first: Tree, second: Tree) -> Tree {
     Tree::And(Box::new(first), Box::new(second))
 }
 
-fn not(child: Tree) -> Tree {
+pub(crate) fn not(child: Tree) -> Tree {
     Tree::Not(Box::new(child))
 }
 
-fn or(first: Tree, second: Tree) -> Tree {
+pub(crate) fn or(first: Tree, second: Tree) -> Tree {
     not(and(not(first), not(second)))
 }
 
-fn some(variable: u8, child: Tree) -> Tree {
+pub(crate) fn some(variable: u8, child: Tree) -> Tree {
     Tree::Some(variable, Box::new(child))
 }
 
-fn leaf(kind: u8, a: u8, b: u8) -> Tree {
+pub(crate) fn leaf(kind: u8, a: u8, b: u8) -> Tree {
     Tree::Atom(Node { kind, a, b })
 }
 
-fn size(tree: &Tree) -> usize {
+pub(crate) fn size(tree: &Tree) -> usize {
     match tree {
         Tree::And(first, second) => 1 + size(first) + size(second),
         Tree::Not(child) | Tree::Some(_, child) => 1 + size(child),
@@ -124,7 +124,7 @@ fn random_rule(random: &mut Random, label_count: usize, depth: usize, budget: us
 
 /// A random tree whose variables are bound by the "some" nodes around it. Takes its
 /// nodes from the budget. With nothing bound yet it needs two nodes at least.
-fn random_tree(
+pub(crate) fn random_tree(
     random: &mut Random,
     label_count: usize,
     bound: &mut Vec<u8>,
@@ -172,7 +172,7 @@ fn random_tree(
     }
 }
 
-fn atom(random: &mut Random, bound: &[u8], label_count: usize) -> Node {
+pub(crate) fn atom(random: &mut Random, bound: &[u8], label_count: usize) -> Node {
     let kind = *random.pick(&[HAS_LABEL, HAS_LABEL, BEFORE, OVERLAPS, INCLUDES, SAME]);
     let a = *random.pick(bound);
     if kind == HAS_LABEL && label_count > 0 {
@@ -183,7 +183,7 @@ fn atom(random: &mut Random, bound: &[u8], label_count: usize) -> Node {
 }
 
 /// The nodes of the tree in a random order in which every child comes earlier.
-fn nodes_of(random: &mut Random, tree: &Tree) -> Vec<Node> {
+pub(crate) fn nodes_of(random: &mut Random, tree: &Tree) -> Vec<Node> {
     // First in the plain order, with children by their numbers in it.
     let mut plain: Vec<(Node, Vec<usize>)> = Vec::new();
     fn list(tree: &Tree, plain: &mut Vec<(Node, Vec<usize>)>) -> usize {

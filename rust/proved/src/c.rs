@@ -61,6 +61,22 @@ extern "C" {
         line_length: usize,
     ) -> u32;
     pub fn scene_log_relate(record: *const u8, record_length: usize, first: u32, second: u32) -> u32;
+    pub fn scene_log_first_slip(
+        rule: *const u8,
+        rule_length: usize,
+        record: *const u8,
+        record_length: usize,
+        slip: *mut u8,
+        slip_length: usize,
+    ) -> u32;
+    pub fn scene_log_slip_passes(
+        rule: *const u8,
+        rule_length: usize,
+        record: *const u8,
+        record_length: usize,
+        slip: *const u8,
+        slip_length: usize,
+    ) -> u32;
     pub fn scene_log_compose(first: u32, second: u32) -> u32;
     pub fn scene_log_converse(set: u32) -> u32;
     pub fn scene_log_fnv1a(bytes: *const u8, length: usize) -> u32;

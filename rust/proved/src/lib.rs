@@ -38,14 +38,28 @@
 //! assert_eq!(rule, b"RUL\x01\x00\x00\x03\x05\x00\x01\x03\x01\x00\x03\x00\x01");
 //! # Ok::<(), scene_log::Refusal>(())
 //! ```
+//!
+//! A rule that fails may show its runs:
+//!
+//! ```
+//! use scene_log::{rule_file, Check};
+//!
+//! let rule = rule_file("!exist A, B . A('EVENING') & B('TEST') & A i B")?;
+//! let (check, _) = Check::after(&rule, b"B 7 EVENING\nB 9 TEST\nE 9\nE 7\n");
+//! let slip = check.first_slip(&rule)?.expect("the rule fails");
+//! assert_eq!(slip.runs(), [0, 1]);
+//! # Ok::<(), scene_log::Refusal>(())
+//! ```
 
 mod c;
 mod refusal;
 mod relation;
+mod slip;
 mod typed;
 
 pub use refusal::{LogRefused, Refusal};
 pub use relation::{Relation, Relations};
+pub use slip::{first_slip, slip_passes, write_first_slip, Slip};
 pub use typed::{rule_file, rule_from_text, rule_text, text_from_rule};
 
 use std::fmt;
@@ -57,6 +71,7 @@ pub const TEXT_BYTES: usize = 2048;
 pub const RECORD_BYTES: usize = 2628;
 pub const RULE_BYTES: usize = 599;
 pub const RULE_TEXT_BYTES: usize = 4096;
+pub const SLIP_BYTES: usize = 4;
 
 /// Whether the rule is true of the lines up to a line.
 #[derive(Clone, Copy, PartialEq, Eq, PartialOrd, Ord, Hash, Debug)]
@@ -321,6 +336,16 @@ impl Check {
     /// The relation of the first of two runs to the second, or the refusal. Runs are numbered from 0.
     pub fn relate(&self, first: u32, second: u32) -> Result<Relation, Refusal> {
         relate(&*self.record, first, second)
+    }
+
+    /// The first slip of the rule that passes, none where the rule holds, or the refusal.
+    pub fn first_slip(&self, rule: &[u8]) -> Result<Option<Slip>, Refusal> {
+        first_slip(rule, &*self.record)
+    }
+
+    /// Whether the slip passes, or the refusal.
+    pub fn slip_passes(&self, rule: &[u8], slip: &[u8]) -> Result<bool, Refusal> {
+        slip_passes(rule, &*self.record, slip)
     }
 }
 

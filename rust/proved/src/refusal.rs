@@ -42,12 +42,13 @@ pub enum Refusal {
     SameRun = 23,
     NoTally = 24,
     RuleGrammar = 25,
+    RuleNoSlips = 26,
 }
 
 use Refusal::*;
 
 /// All refusals, in the order of their numbers, each with its sentence.
-const ALL: [(Refusal, &str); 25] = [
+const ALL: [(Refusal, &str); 26] = [
     (RuleEndsEarly, "the rule file ends before the next part is whole"),
     (RuleMark, "the rule file's mark is not RUL"),
     (RuleVersion, "the rule file's version is not 1"),
@@ -69,14 +70,15 @@ const ALL: [(Refusal, &str); 25] = [
     (TooManyLabels, "the line would bring a 65th label"),
     (ShortBuffer, "a lent buffer is shorter than stated"),
     (NoRecord, "no accepted lines leave this record, or the pair bytes are not that record's"),
-    (NoFinishedRun, "a run number has no finished run"),
+    (NoFinishedRun, "a run number has no finished run, or a slip has a wrong number of runs"),
     (SameRun, "both numbers name the same finished run"),
     (NoTally, "the tally's counts are not the record's, or its failing lines exceed its lines"),
     (RuleGrammar, "the typed rule is outside the grammar or longer than 4,096 bytes"),
+    (RuleNoSlips, "the rule is not a \"not\" over one to four \"some\" over a part without \"some\""),
 ];
 
 impl Refusal {
-    /// The number on the list, 1 to 25.
+    /// The number on the list, 1 to 26.
     pub fn number(self) -> u8 {
         self as u8
     }
@@ -131,7 +133,7 @@ mod tests {
     fn every_number_names_its_refusal() {
         for number in 0..=u8::MAX {
             let named = Refusal::from_number(number).map(Refusal::number);
-            assert_eq!(named, (1..=25).contains(&number).then_some(number));
+            assert_eq!(named, (1..=26).contains(&number).then_some(number));
         }
     }
 }

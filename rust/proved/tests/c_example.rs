@@ -1,6 +1,8 @@
 //! The C header declares what the archive has: the example beside it is compiled, linked and run.
 
-use scene_log::{Refusal, RECORD_BYTES, RULE_BYTES, RULE_TEXT_BYTES, TEXT_BYTES, VERDICT_BYTES, WORK_BYTES};
+use scene_log::{
+    Refusal, RECORD_BYTES, RULE_BYTES, RULE_TEXT_BYTES, SLIP_BYTES, TEXT_BYTES, VERDICT_BYTES, WORK_BYTES,
+};
 use std::path::Path;
 use std::process::Command;
 
@@ -24,7 +26,9 @@ fn the_c_example_prints_what_was_worked_out() {
     // The rule is refused without its point and what follows it. Written out, each "exist" has one name and brackets round it.
     // Run 1 is before run 2, which is finished at line 4; up to there one run at most is finished, and none is before another. The
     // same line by line; then the end of run 2 comes a second time. Of the other log four lines are taken: its run 1 begins first
-    // and ends while run 2 is on, so none is before the other.
+    // and ends while run 2 is on, so none is before the other. Then the rule has no "not" and so no slip; with "not",
+    // runs 0 and 2 are the first to break it: run 0 ends at line 3, run 2 begins at line 4, and run 1 lasts from line 2
+    // to the end.
     let expected = std::fs::read_to_string(root.join("include/example.expected")).unwrap();
     assert_eq!(String::from_utf8(run.stdout).unwrap(), expected);
 }
@@ -43,6 +47,7 @@ fn the_header_says_what_this_crate_says() {
         ("RECORD_BYTES", RECORD_BYTES),
         ("RULE_BYTES", RULE_BYTES),
         ("RULE_TEXT_BYTES", RULE_TEXT_BYTES),
+        ("SLIP_BYTES", SLIP_BYTES),
     ] {
         let stated = format!("#define SCENE_LOG_{name} {length}");
         assert!(header.lines().any(|line| line == stated), "{stated}");
@@ -51,7 +56,7 @@ fn the_header_says_what_this_crate_says() {
     let (texts, _) = texts.split_once("};").unwrap();
     let plain = |line: &str| line.trim().replace("\\\"", "'");
     let in_header: Vec<String> = texts.lines().map(plain).filter(|line| !line.is_empty()).collect();
-    let refusals = (1..=25).map(|number| Refusal::from_number(number).unwrap());
+    let refusals = (1..=26).map(|number| Refusal::from_number(number).unwrap());
     let here: Vec<String> = refusals.map(|refusal| format!("\"{}\",", refusal.to_string().replace('"', "'"))).collect();
     assert_eq!(in_header, here);
 }

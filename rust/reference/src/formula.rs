@@ -34,7 +34,7 @@ pub fn is_true(rule: &Formula, runs: &[FinishedRun]) -> bool {
 }
 
 /// Satisfaction, clause by clause as under "Meaning".
-fn satisfies(formula: &Formula, runs: &[FinishedRun], binding: Binding) -> bool {
+pub fn satisfies(formula: &Formula, runs: &[FinishedRun], binding: Binding) -> bool {
     // Every variable used is bound: a rule file with another one is refused with 9.
     let run = |variable: Variable| &runs[binding[variable].expect("a bound variable")];
     match formula {

@@ -12,6 +12,7 @@
 //! - `record`: the carried record and the pair bytes, and whether they are real (21).
 //! - `calls`: the calls, with their refusals in order and what they leave in each buffer.
 //! - `report`: the whole output of the check program.
+//! - `slip`: the runs that break a rule, and which rules have them (26).
 //! - `typed`: a rule file from a rule typed by hand, and its text (25).
 
 pub mod calls;
@@ -21,10 +22,11 @@ pub mod record;
 pub mod relation;
 pub mod report;
 pub mod rule;
+pub mod slip;
 pub mod trace;
 pub mod typed;
 
-/// A number on the paper's list of refusals, 1 to 25.
+/// A number on the paper's list of refusals, 1 to 26.
 pub type Refusal = u8;
 
 /// "At most 128 runs and 64 labels".

@@ -48,7 +48,8 @@ impl Rule {
         self.formula_at(self.nodes.len() - 1)
     }
 
-    fn formula_at(&self, number: usize) -> Formula {
+    /// The formula of the node with this number.
+    pub fn formula_at(&self, number: usize) -> Formula {
         let Node { kind, a, b } = self.nodes[number];
         let (a, b) = (usize::from(a), usize::from(b));
         let child = |number| Box::new(self.formula_at(number));

@@ -273,6 +273,53 @@ fn relating_two_runs() {
     assert_eq!(relation_between(&spoiled, 9, 9), Err(21));
 }
 
+/// The refusals of both calls on slips, in order. The buffer that a slip is written to has this length.
+fn slip_refusals(rule: &[u8], record: &Record, length: usize, slip: &[u8]) -> (Option<u8>, Option<u8>) {
+    let mut buffer = vec![0xA5; length];
+    let first = first_slip(rule, record, &mut buffer);
+    if !matches!(first, Ok(1..)) {
+        assert_eq!(buffer, vec![0xA5; length]);
+    }
+    (first.err(), slip_passes(rule, record, slip).err())
+}
+
+#[test]
+fn the_slip_of_p1() {
+    let record = record_after(P1_LOG);
+    let mut slip = [0xA5; 6];
+    assert_eq!(first_slip(&p1(), &record, &mut slip), Ok(2));
+    assert_eq!(slip, [0, 1, 0xA5, 0xA5, 0xA5, 0xA5]);
+    assert_eq!(slip_passes(&p1(), &record, &[0, 1]), Ok(true));
+    for slip in [[0, 0], [1, 0], [1, 1]] {
+        assert_eq!(slip_passes(&p1(), &record, &slip), Ok(false));
+    }
+    let before = record_after("B 7 EVENING\nB 9 TEST\nE 9\n");
+    assert_eq!(first_slip(&p1(), &before, &mut slip), Ok(0));
+    assert_eq!(slip, [0, 1, 0xA5, 0xA5, 0xA5, 0xA5]);
+    assert_eq!(slip_passes(&p1(), &before, &[0, 1]), Err(22));
+    assert_eq!(slip_passes(&p1(), &before, &[1, 1]), Ok(false));
+}
+
+#[test]
+fn the_order_of_refusals_of_the_calls_on_slips() {
+    let sound = record_after(P1_LOG);
+    let mut spoiled = sound.clone();
+    spoiled.lines = 5;
+    let bare = rule_file(b"exist A . A < A").unwrap();
+    let mut long_bare = bare.clone();
+    long_bare.push(0);
+    assert_eq!(slip_refusals(&long_bare, &spoiled, 3, &[]), (Some(20), Some(7)));
+    assert_eq!(slip_refusals(&long_bare, &spoiled, 4, &[]), (Some(7), Some(7)));
+    assert_eq!(slip_refusals(&bare, &spoiled, 4, &[]), (Some(26), Some(26)));
+    assert_eq!(slip_refusals(&bare, &sound, 4, &[0, 1]), (Some(26), Some(26)));
+    assert_eq!(slip_refusals(&p1(), &spoiled, 4, &[]), (Some(21), Some(21)));
+    assert_eq!(slip_refusals(&p1(), &spoiled, 4, &[0, 1]), (Some(21), Some(21)));
+    for slip in [&[][..], &[0], &[0, 1, 1], &[0, 1, 0, 1], &[0; 5], &[0; 300], &[0, 2], &[2, 0], &[128, 1], &[0, 255]] {
+        assert_eq!(slip_refusals(&p1(), &sound, 4, slip), (None, Some(22)), "{slip:?}");
+    }
+    assert_eq!(slip_refusals(&p1(), &sound, 4, &[1, 0]), (None, None));
+}
+
 #[test]
 fn every_relation_that_a_longer_log_shows_is_in_the_composition() {
     // Nested and side by side runs in a log of eight; all triples of different runs.

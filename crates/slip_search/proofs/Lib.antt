@@ -1,0 +1,4 @@
+pub mod Places
+pub mod Asked
+pub mod Levels
+pub mod Given

@@ -1,0 +1,6 @@
+pub mod Ranked
+pub mod Meaning
+pub mod Said
+pub mod Chains
+pub mod Calls
+pub mod Tables

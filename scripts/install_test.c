@@ -80,7 +80,7 @@ static void try_answers(void) {
     EXPECT(SCENE_LOG_REFUSAL(scene_log_compose(64, 0)) == SCENE_LOG_NO_SET);
     EXPECT(SCENE_LOG_VALUE(scene_log_converse(SCENE_LOG_INCLUDES)) == SCENE_LOG_DURING);
     EXPECT(SCENE_LOG_REFUSAL(scene_log_converse(256)) == SCENE_LOG_NO_SET);
-    for (number = 1; number <= 25; number++)
+    for (number = 1; number <= 26; number++)
         EXPECT(strcmp(scene_log_refusal_text(number), scene_log_refusal_text(0)) != 0);
     EXPECT(scene_log_refusal_text(26) == scene_log_refusal_text(0) && scene_log_refusal_text(65536) == scene_log_refusal_text(0));
 }

@@ -14,12 +14,13 @@ use scene_log::{RECORD_BYTES, SLIP_BYTES, VERDICT_BYTES, WORK_BYTES};
 use std::time::Instant;
 use worst::{searched, worst, LAST};
 
-/// On the properties of the paper, finding and passing as multiples of the whole-log call with the two-node rule.
+/// On the properties of the paper, finding a slip and passing one as multiples of the whole-log call with the two-node
+/// rule. That no slip passes takes as long as the check finds it, so there the limit is the next one.
 const TO_READING: f64 = 3.0;
 
-/// On the worst rules, finding and passing as multiples of the check, which is the whole-log call with the same rule
-/// and log; and in seconds.
-const WORST_TO_WHOLE: f64 = 2.0;
+/// Finding that none passes, and on the worst rules finding and passing, as multiples of the check, which is the
+/// whole-log call with the same rule and log; and in seconds.
+const TO_WHOLE: f64 = 2.0;
 const WORST_TIME: f64 = 0.3;
 
 /// The properties of the paper that have slips. The third of both lists has a "some" in its part.
@@ -162,21 +163,25 @@ fn print_row(row: &Row) {
 
 /// Prints a line for each requirement, over the rows of full logs. Answers whether none failed.
 pub fn print_checks(rows: &[Row]) -> bool {
-    let check = |rules: &str, what: &str, limit: f64, number: fn(&Row) -> f64, form| {
+    let check = |rules: &str, what: &str, limit: f64, number: fn(&Row) -> Option<f64>, form| {
         let of = rows.iter().filter(|row| row.runs == MAX_RUNS && row.rule.starts_with(rules));
-        let numbers = of.map(|row| Number { value: number(row), is_taken: true }).collect();
+        let numbers = of.filter_map(number).map(|value| Number { value, is_taken: true }).collect();
         let name = if rules.contains("slips") { rules.into() } else { format!("slips, {rules}") };
         print_numbers(&name, what, Limit::AtMost(limit), numbers, form)
     };
+    let found: fn(&Row) -> Option<f64> = |row| (!row.slip.is_empty()).then_some(row.finding / row.reading);
+    let none: fn(&Row) -> Option<f64> = |row| row.slip.is_empty().then_some(row.finding / row.whole);
     let passed = [
-        check("figure 1", "finding / reading", TO_READING, |row| row.finding / row.reading, short),
-        check("figure 1", "passing / reading", TO_READING, |row| row.passing / row.reading, short),
-        check("section 3", "finding / reading", TO_READING, |row| row.finding / row.reading, short),
-        check("section 3", "passing / reading", TO_READING, |row| row.passing / row.reading, short),
-        check("worst slips", "finding / whole log", WORST_TO_WHOLE, |row| row.finding / row.whole, short),
-        check("worst slips", "passing / whole log", WORST_TO_WHOLE, |row| row.passing / row.whole, short),
-        check("worst slips", "finding", WORST_TIME, |row| row.finding, seconds),
-        check("worst slips", "passing", WORST_TIME, |row| row.passing, seconds),
+        check("figure 1", "finding a slip / reading", TO_READING, found, short),
+        check("figure 1", "finding none / whole log", TO_WHOLE, none, short),
+        check("figure 1", "passing / reading", TO_READING, |row| Some(row.passing / row.reading), short),
+        check("section 3", "finding a slip / reading", TO_READING, found, short),
+        check("section 3", "finding none / whole log", TO_WHOLE, none, short),
+        check("section 3", "passing / reading", TO_READING, |row| Some(row.passing / row.reading), short),
+        check("worst slips", "finding / whole log", TO_WHOLE, |row| Some(row.finding / row.whole), short),
+        check("worst slips", "passing / whole log", TO_WHOLE, |row| Some(row.passing / row.whole), short),
+        check("worst slips", "finding", WORST_TIME, |row| Some(row.finding), seconds),
+        check("worst slips", "passing", WORST_TIME, |row| Some(row.passing), seconds),
     ];
     passed.iter().all(|passed| *passed)
 }

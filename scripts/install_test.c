@@ -18,6 +18,7 @@ static const uint8_t rule[] = {'R', 'U', 'L', 1, 0, 0, 3, 5, 0, 1, 3, 1, 0, 3, 0
 static uint8_t work[SCENE_LOG_WORK_BYTES], verdicts[SCENE_LOG_VERDICT_BYTES], text[SCENE_LOG_TEXT_BYTES];
 static uint8_t record[SCENE_LOG_RECORD_BYTES];
 static uint32_t tally[SCENE_LOG_TALLY_COUNTS];
+static uint8_t slip[SCENE_LOG_SLIP_BYTES];
 static uint8_t made[SCENE_LOG_RULE_BYTES], written[SCENE_LOG_RULE_TEXT_BYTES];
 
 /* A refused call leaves its buffer as it was; any other writes to its front, and leaves the rest. */
@@ -80,9 +81,13 @@ static void try_answers(void) {
     EXPECT(SCENE_LOG_REFUSAL(scene_log_compose(64, 0)) == SCENE_LOG_NO_SET);
     EXPECT(SCENE_LOG_VALUE(scene_log_converse(SCENE_LOG_INCLUDES)) == SCENE_LOG_DURING);
     EXPECT(SCENE_LOG_REFUSAL(scene_log_converse(256)) == SCENE_LOG_NO_SET);
+    memset(slip, UNUSED, sizeof slip);
+    EXPECT(SCENE_LOG_REFUSAL(scene_log_first_slip(OF(rule), OF(record), slip, SCENE_LOG_SLIP_BYTES - 1)) == SCENE_LOG_SHORT_BUFFER);
+    EXPECT(SCENE_LOG_REFUSAL(scene_log_first_slip(OF(rule), OF(record), OF(slip))) == SCENE_LOG_RULE_NO_SLIPS && slip[0] == UNUSED);
+    EXPECT(SCENE_LOG_REFUSAL(scene_log_slip_passes(OF(rule), OF(record), NULL, 0)) == SCENE_LOG_RULE_NO_SLIPS);
     for (number = 1; number <= 26; number++)
         EXPECT(strcmp(scene_log_refusal_text(number), scene_log_refusal_text(0)) != 0);
-    EXPECT(scene_log_refusal_text(26) == scene_log_refusal_text(0) && scene_log_refusal_text(65536) == scene_log_refusal_text(0));
+    EXPECT(scene_log_refusal_text(27) == scene_log_refusal_text(0) && scene_log_refusal_text(65536) == scene_log_refusal_text(0));
 }
 
 /* ---- the stack */
@@ -141,6 +146,8 @@ static void judge_logs(void) {
         scene_log_answer answer = scene_log_check_log_record(deep, deep_length, (const uint8_t *)logs[i], strlen(logs[i]) - 5,
                                                              OF(record), OF(work), OF(verdicts));
         EXPECT(SCENE_LOG_LINES(answer) > 20);
+        answer = scene_log_first_slip(deep, deep_length, OF(record), OF(slip));
+        EXPECT(!SCENE_LOG_REFUSED(answer) || SCENE_LOG_REFUSAL(answer) == SCENE_LOG_RULE_NO_SLIPS);
         answer = scene_log_report(deep, deep_length, (const uint8_t *)logs[i], strlen(logs[i]), OF(work), OF(verdicts), OF(text));
         EXPECT(!SCENE_LOG_REFUSED(answer));
     }

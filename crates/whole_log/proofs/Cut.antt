@@ -57,7 +57,7 @@ module _ (log : List ℕ) where
   drop-cut : (p : ℕ) → drop p cut ≡ take (8192 - p) (drop p log)
   drop-cut p = drop-take p 8192 log
 
-  next-cut : (p : ℕ) → p ≤ 5248 → nextLine cut p ≡ nextLine log p
+  pub next-cut : (p : ℕ) → p ≤ 5248 → nextLine cut p ≡ nextLine log p
   unfolding nextLine
   next-cut p h =
       let d : drop p cut ≡ take (8192 - p) (drop p log) = drop-cut p in
@@ -70,7 +70,7 @@ module _ (log : List ℕ) where
       let k′ : length cut ≤ p = omega arith in
       simp (le-ltb p (length log) k, le-ltb p (length cut) k′))
 
-  line-cut : (p e : ℕ) → e ≤ length cut → lineBetween cut p e ≡ lineBetween log p e
+  pub line-cut : (p e : ℕ) → e ≤ length cut → lineBetween cut p e ≡ lineBetween log p e
   line-cut p e h =
       let l = length-take 8192 log in
       ap (take (e - p)) (drop-cut p) ∙ take-take (e - p) (8192 - p) (drop p log) (omega arith)

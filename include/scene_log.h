@@ -244,7 +244,7 @@ scene_log_answer scene_log_relate(const uint8_t *record, size_t record_length, u
 /* A slip shows which runs break a rule. The rule is a "not" directly over a chain of one to four "some" over a part
  * without "some"; a slip has one run number, a byte, for each "some", the outermost first. It passes where all its
  * runs are finished and the part is true of them; where two "some" bind one variable, the inner one's run is meant.
- * The rule fails with the last line of the record exactly where some slip passes.
+ * The rule fails with the last line of the record exactly where some slip passes; of no lines none does.
  *
  * Writes the first slip that passes to the start of slip, which has at least SCENE_LOG_SLIP_BYTES: first by the number
  * of the outermost run, then by that of the next. Value: how many runs it has, 1 to 4, or 0 where none passes and

@@ -15,6 +15,7 @@
 #define UNUSED 0xa5
 
 static const uint8_t rule[] = {'R', 'U', 'L', 1, 0, 0, 3, 5, 0, 1, 3, 1, 0, 3, 0, 1};
+static const uint8_t with_slips[] = {'R', 'U', 'L', 1, 0, 0, 3, 8, 0, 0, 3, 0, 0, 2, 1, 0};
 static uint8_t work[SCENE_LOG_WORK_BYTES], verdicts[SCENE_LOG_VERDICT_BYTES], text[SCENE_LOG_TEXT_BYTES];
 static uint8_t record[SCENE_LOG_RECORD_BYTES];
 static uint32_t tally[SCENE_LOG_TALLY_COUNTS];
@@ -85,6 +86,10 @@ static void try_answers(void) {
     EXPECT(SCENE_LOG_REFUSAL(scene_log_first_slip(OF(rule), OF(record), slip, SCENE_LOG_SLIP_BYTES - 1)) == SCENE_LOG_SHORT_BUFFER);
     EXPECT(SCENE_LOG_REFUSAL(scene_log_first_slip(OF(rule), OF(record), OF(slip))) == SCENE_LOG_RULE_NO_SLIPS && slip[0] == UNUSED);
     EXPECT(SCENE_LOG_REFUSAL(scene_log_slip_passes(OF(rule), OF(record), NULL, 0)) == SCENE_LOG_RULE_NO_SLIPS);
+    EXPECT(SCENE_LOG_REFUSAL(scene_log_slip_passes(OF(with_slips), OF(record), NULL, 0)) == SCENE_LOG_NO_FINISHED_RUN);
+    EXPECT(SCENE_LOG_REFUSAL(scene_log_first_slip(NULL, 0, OF(record), OF(slip))) == SCENE_LOG_RULE_ENDS_EARLY);
+    answer = scene_log_first_slip(OF(with_slips), OF(record), OF(slip));
+    EXPECT(!SCENE_LOG_REFUSED(answer) && SCENE_LOG_VALUE(answer) == 0 && slip[0] == UNUSED);
     for (number = 1; number <= 26; number++)
         EXPECT(strcmp(scene_log_refusal_text(number), scene_log_refusal_text(0)) != 0);
     EXPECT(scene_log_refusal_text(27) == scene_log_refusal_text(0) && scene_log_refusal_text(65536) == scene_log_refusal_text(0));

@@ -23,6 +23,9 @@ use Rattle.logic.specs.Satisfies.{Satisfies}
 use Rattle.logic.specs.Model.{eval, modelOf}
 use Rattle.logic.specs.Verdict.{verdictByte, Says}
 use Rattle.logic.proofs.Decides.{eval-decides}
+use Rattle.reading.specs.Left.{Left}
+use Rattle.single.specs.Line.{judged}
+use Rattle.report.specs.Calls.{LineCall}
 use Rattle.slip_form.specs.declared.Slip.{Slip}
 use Rattle.slip_form.specs.Form.{someOf, SlipForm}
 use Rattle.slip_form.specs.Slips.{bindEach, unbound, Fits, Passes, slipRuns, slipOf, FirstSlip}
@@ -32,10 +35,12 @@ use Rattle.slips.specs.declared.Finding.{Finding}
 use Rattle.slips.specs.declared.Passing.{Passing}
 use Rattle.slips.specs.declared.Passing.the-variants as Passing
 use Rattle.slips.specs.Answers.{withSlip, withoutSlip, firstRuns, foundIn, fits?, passingIn, FindsIn, ReadsIn, SlipCall, FindsFirst, ReadsSlip}
+use Rattle.slip_search.proofs.Places.{length-numbers}
 use Rattle.slips.proofs.Said.{some-passes}
 use Rattle.claims.specs.Demand1.{Listed, Refuses}
 use Rattle.claims.specs.Slips.{MetSlips, slip-rule, slip-form, slip-record, slip-then, MetFinding, MetPassing, Of, Slips}
 use Rattle.claims.proofs.Refusals.{rule-number, lent-nothing}
+use Rattle.claims.proofs.Verdicts.{demand-2}
 
 -- ── one call, whatever it answers ──
 module _ (file : List ℕ) (r : Record) (refuses : ℕ → Type 0) (says : (t : Trace) (f : Formula) → SlipForm f → Type 0)
@@ -212,6 +217,17 @@ passes-found file r a h e b k = go (answered file r (λ n. a ≡ withoutSlip (Fo
         of-file file r (λ n. b ≡ Passing.Refused n) (λ t f s. ReadsIn t f s (slipRuns (a .slip)) b) k f m s log t acc q .passes .1
         (w .slip (a .slip) .0 (with-slip a e) .passes)
 
+fails-line : (k : LineCall) (f : Formula) → RuleFile (k .file) f → SlipForm f → (log : List ℕ) (t : Trace) → Left log t (k .state) (k .work)
+    → (v : Verdict) → k .answer .outcome ≡ judged v → (a : Finding) → FindsFirst (k .file) (k .answer .state) a
+    → (verdictByte v ≡ 0) ↔ (a .found ≡ Found.First)
+fails-line k f m s log t left v e a h =
+    let x = rule-file-taken (k .file) f m in
+    let j = demand-2 .line k (x .0) (x .1) log t left v e in
+    let u = j .settled .left in
+    fails-found f s (j .settled .trace) a
+    (of-file (k .file) (k .answer .state) (λ n. a ≡ withoutSlip (Found.Refused n)) (λ t f s. FindsIn t f s a) h f m s _ _ (u .accepted) (u .encoded))
+    v (subst (λ (g : Formula). Says (j .settled .trace) g v) (x .2) (j .verdict))
+
 pub the-slips : Slips
 the-slips =
     record {
@@ -234,5 +250,7 @@ the-slips =
       first = λ file r a h f m s log t acc e. of-file file r (λ n. a ≡ withoutSlip (Found.Refused n)) (λ t f s. FindsIn t f s a) h f m s log t acc e .slip;
       none = λ file r a h f m s log t acc e. of-file file r (λ n. a ≡ withoutSlip (Found.Refused n)) (λ t f s. FindsIn t f s a) h f m s log t acc e .none;
       found = λ file r a h f m s log t acc e v w. fails-found f s t a (of-file file r (λ n. a ≡ withoutSlip (Found.Refused n)) (λ t f s. FindsIn t f s a) h f m s log t acc e) v w;
+      line = fails-line;
       found-passes = passes-found;
+      counted = λ x. length-numbers (x .count) (x .run);
     }

@@ -4,6 +4,7 @@ use Prim.Native.Nat.{ℕ}
 use mathlib.Core.Path.{_≡_}
 use mathlib.Core.Logic.{_↔_}
 use mathlib.Core.List.{List}
+use lib.ListN.{length}
 use Rattle.trace.specs.declared.Record.{Record}
 use Rattle.trace.specs.Trace.{Trace, Accepted}
 use Rattle.trace.specs.Record.{recordOf, Valid}
@@ -12,6 +13,9 @@ use Rattle.grammar.specs.MetRule.{MetRule}
 use Rattle.grammar.specs.Stands.{RuleFile}
 use Rattle.logic.specs.declared.Verdict.{Verdict}
 use Rattle.logic.specs.Verdict.{verdictByte, Says}
+use Rattle.reading.specs.Left.{Left}
+use Rattle.single.specs.Line.{judged}
+use Rattle.report.specs.Calls.{LineCall}
 use Rattle.slip_form.specs.declared.Slip.{Slip}
 use Rattle.slip_form.specs.Form.{SlipForm}
 use Rattle.slip_form.specs.Slips.{Fits, Passes, slipRuns, FirstSlip}
@@ -67,5 +71,11 @@ pub record Slips : Type 0 where
   -- so a slip is found exactly where the verdict is F, and the reader passes it
   pub found : (file : List ℕ) (r : Record) (a : Finding) → FindsFirst file r a
       → Of (λ t f s. (v : Verdict) → Says t f v → (verdictByte v ≡ 0) ↔ (a .found ≡ Found.First)) file r
+  -- and so after a line that the single-line call takes
+  pub line : (k : LineCall) (f : Formula) → RuleFile (k .file) f → SlipForm f → (log : List ℕ) (t : Trace)
+      → Left log t (k .state) (k .work) → (v : Verdict) → k .answer .outcome ≡ judged v
+      → (a : Finding) → FindsFirst (k .file) (k .answer .state) a → (verdictByte v ≡ 0) ↔ (a .found ≡ Found.First)
   pub found-passes : (file : List ℕ) (r : Record) (a : Finding) → FindsFirst file r a → a .found ≡ Found.First
       → (b : Passing) → ReadsSlip file r (a .slip) b → b ≡ Passing.Passes
+  -- "run numbers, one for each "some"": a slip has as many as its count says, places or not
+  pub counted : (x : Slip) → length (slipRuns x) ≡ x .count

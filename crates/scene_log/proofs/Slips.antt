@@ -14,7 +14,7 @@ use Rattle.slips.specs.declared.Finding.{Finding}
 use Rattle.slips.specs.declared.Passing.{Passing}
 use Rattle.slips.specs.Answers.{FindsFirst, ReadsSlip}
 use Rattle.slip_bytes.specs.InBytes.{slipFrom, foundNumbered, passingNumber}
-use Rattle.slip_bytes.proofs.Few.{bytes-back}
+use Rattle.slip_bytes.proofs.Few.{zero-none, no-slip-left, bytes-back, bytes-counted}
 use Rattle.scene_log.specs.Slips.{FindsNumber, PassesNumber}
 use Rattle.scene_log.proofs.InBytes.{unpacked}
 
@@ -31,7 +31,14 @@ module _ (file b y : List ℕ) where
       record {
         short-record = λ g. absurd (omega arith);
         short-slip = λ g. absurd (omega arith);
-        long = λ _ _. record { found = a; finds = subst (λ (r : Record). FindsFirst file r a) (unpacked b u h p) f; answer = e };
+        long = λ _ _.
+            record {
+              found = a;
+              finds = subst (λ (r : Record). FindsFirst file r a) (unpacked b u h p) f;
+              answer = e;
+              none = zero-none file (u .state) a f y n y′ e;
+              left = no-slip-left file (u .state) a f y n y′ e;
+            };
       }
 
   pub pass-no-record : length b < recordSize → PassesNumber file b y (refusal 20)
@@ -46,6 +53,7 @@ module _ (file b y : List ℕ) where
             record {
               passing = a;
               reads = subst (λ (z : Slip). ReadsSlip file (recordFrom b) z a) q (subst (λ (s : Record). ReadsSlip file s x a) (unpacked b u h p) r);
+              counted = bytes-counted y;
               runs = bytes-back y;
               answer = e;
             };

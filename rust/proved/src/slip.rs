@@ -23,6 +23,7 @@ impl Slip {
 
 /// Writes the first slip of the rule that passes to the start of `slip`, which has at least [`SLIP_BYTES`]: how many
 /// runs it has, or 0 where none passes and nothing is written.
+/// Refused with 20, the rule's 1 to 10, 26 or 21, in this order; then nothing is written.
 ///
 /// ```
 /// use scene_log::{rule_file, write_first_slip, Check, Refusal};
@@ -72,6 +73,7 @@ pub fn first_slip(rule: &[u8], record: &[u8]) -> Result<Option<Slip>, Refusal> {
 }
 
 /// Whether a slip passes, whoever wrote it. Its length is its number of runs.
+/// Refused with 20 (for the record), the rule's 1 to 10, 26, 21 or 22, in this order.
 ///
 /// ```
 /// use scene_log::{rule_file, slip_passes, Check, Refusal};

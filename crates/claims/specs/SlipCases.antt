@@ -93,16 +93,19 @@ pub record SlipCases : Type 0 where
   pub row-later : (a : Passing) → ReadsSlip noneBefore (recordOf rowTrace) (slipOf (0 ∷ 2 ∷ [])) a → a ≡ Passing.Passes
   pub row-last : (a : Passing) → ReadsSlip noneBefore (recordOf rowTrace) (slipOf (1 ∷ 2 ∷ [])) a → a ≡ Passing.Passes
   pub row-twice : (a : Passing) → ReadsSlip noneBefore (recordOf rowTrace) (slipOf (1 ∷ 1 ∷ [])) a → a ≡ Passing.DoesNot
-  pub row-open : (a : Passing) → ReadsSlip noneBefore (recordOf rowTrace) (slipOf (0 ∷ 3 ∷ [])) a → a ≡ Passing.Refused 22
+  pub row-open : (a : Passing) → ReadsSlip noneBefore (recordOf rowTrace) (slipOf (0 ∷ 3 ∷ [])) a
+      → a ≡ Passing.Refused 22
   pub row-three : (a : Passing) → ReadsSlip noneBefore (recordOf rowTrace) (slipOf (0 ∷ 1 ∷ 2 ∷ [])) a
       → a ≡ Passing.Refused 22
   -- by run numbers, and not by the order in which runs finish: run 1 finishes before run 0
   pub by-number : (a : Finding) → FindsFirst allOther (recordOf p1Trace) a → a ≡ withSlip (slipOf (0 ∷ []))
   -- "none", while run 0 is open
   pub none : (a : Finding) → FindsFirst p1File (recordOf threeTrace) a → a ≡ withoutSlip Found.Nothing
-  pub none-open : (a : Passing) → ReadsSlip p1File (recordOf threeTrace) (slipOf (0 ∷ 1 ∷ [])) a → a ≡ Passing.Refused 22
+  pub none-open : (a : Passing) → ReadsSlip p1File (recordOf threeTrace) (slipOf (0 ∷ 1 ∷ [])) a
+      → a ≡ Passing.Refused 22
   -- a chain of four; no slip of five runs, whatever its places hold
-  pub four : (a : Finding) → FindsFirst noTestFourTimes (recordOf p1Trace) a → a ≡ withSlip (slipOf (0 ∷ 0 ∷ 0 ∷ 1 ∷ []))
+  pub four : (a : Finding) → FindsFirst noTestFourTimes (recordOf p1Trace) a
+      → a ≡ withSlip (slipOf (0 ∷ 0 ∷ 0 ∷ 1 ∷ []))
   pub four-turned : (a : Passing) → ReadsSlip noTestFourTimes (recordOf p1Trace) (slipOf (1 ∷ 0 ∷ 0 ∷ 0 ∷ [])) a
       → a ≡ Passing.DoesNot
   pub five-runs : (a : Passing)

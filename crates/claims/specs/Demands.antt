@@ -1,6 +1,6 @@
 -- The three demands, the typed rules and the slips, as five statements about every call (`Calls.antt`, `Typed.antt`,
--- `Slips.antt`): of whatever the calls answer and leave by their contracts. That a call ends and does nothing undefined is proved of every
--- function.
+-- `Slips.antt`): of whatever the calls answer and leave by their contracts. That a call ends and does nothing undefined
+-- is proved of every function.
 --
 -- The words of this page, and where they are defined:
 --   Accepted log t      no line of log meets a refusal, and its lines leave the trace t   trace/specs/Trace

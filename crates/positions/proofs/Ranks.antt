@@ -1,31 +1,31 @@
 -- Why ranks stand to each other as the numbers do whose ranks they are: what is below a number is below every larger
--- one, and the number itself is below those and not below itself.
+-- oneBelow, and the number itself is below those and not below itself.
 use Prim.Native.Nat.{ℕ, _+_, _<_, _≤_}
 use mathlib.Core.Path.{_≡_, refl, sym, _∙_, ap}
 use mathlib.Core.Logic.{_⊎_, inl, inr, ⊎-elim}
 use native.Mathlib.Omega.{arith}
 use borrow.Author.Tests.{lt-ltb, le-ltb}
 use Rattle.lists.proofs.Cases.{either-lt}
-use Rattle.positions.specs.Comparison.{one, rankOf, signOf, signsOf}
+use Rattle.positions.specs.Comparison.{oneBelow, rankOf, signOf, signsOf}
 use Rattle.positions.proofs.Signed.{sign-below, sign-same, sign-above}
 
 -- ── 1 or 0 ──
-pub one-yes : (a b : ℕ) → a < b → one a b ≡ 1
-unfolding one
+pub one-yes : (a b : ℕ) → a < b → oneBelow a b ≡ 1
+unfolding oneBelow
 one-yes a b h = simp (lt-ltb a b h)
 
-pub one-no : (a b : ℕ) → b ≤ a → one a b ≡ 0
-unfolding one
+pub one-no : (a b : ℕ) → b ≤ a → oneBelow a b ≡ 0
+unfolding oneBelow
 one-no a b h = simp (le-ltb a b h)
 
-pub one-at-most : (a b n : ℕ) → n ≡ one a b → n ≤ 1
+pub one-at-most : (a b n : ℕ) → n ≡ oneBelow a b → n ≤ 1
 one-at-most a b n e = either-lt a b (λ h. omega (arith, e, one-yes a b h)) (λ h. omega (arith, e, one-no a b h))
 
-one-rises : (a p q : ℕ) → p ≤ q → one a p ≤ one a q
+one-rises : (a p q : ℕ) → p ≤ q → oneBelow a p ≤ oneBelow a q
 one-rises a p q h =
     either-lt a p (λ k. omega (arith, one-yes a p k, one-yes a q (omega arith))) (λ k. omega (arith, one-no a p k))
 
-one-own : (a p q : ℕ) → p ≡ a → p < q → one a p < one a q
+one-own : (a p q : ℕ) → p ≡ a → p < q → oneBelow a p < oneBelow a q
 one-own a p q e h = omega (arith, one-no a p (omega arith), one-yes a q (omega arith))
 
 -- ── the ranks of four numbers ──

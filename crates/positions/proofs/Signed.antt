@@ -28,7 +28,10 @@ pub record Signed (a b n : ℕ) : Type 0 where
 
 pub signed : (a b n : ℕ) → n ≡ signOf a b → Signed a b n
 signed a b n e =
+    let below = sign-below a b in
+    let above = sign-above a b in
+    let same = sign-same a b in
     let all : (n ≤ 2) × (n ≡ 0 → a < b) × (a < b → n ≡ 0) × (n ≡ 2 → b < a) × (b < a → n ≡ 2) =
-    either-lt a b (λ h. let k = sign-below a b h in omega arith)
-    (λ h. either-lt b a (λ k. let j = sign-above a b k in omega arith) (λ k. let j = sign-same a b k h in omega arith)) in
+    either-lt a b (λ h. omega (arith, below h))
+    (λ h. either-lt b a (λ k. omega (arith, above k)) (λ k. omega (arith, same k h))) in
     record { at-most = all .0; below = all .1; is-below = all .2; above = all .3; is-above = all .4 }

@@ -22,9 +22,9 @@ signsOf s f t g =
       second = signOf t g;
     }
 
--- they have a common moment: both runs start before they finish, and each starts before the other finishes
+-- they have a common moment: each run starts before the other finishes, and both start before they finish
 abbrev pub CommonMoment : ℕ → ℕ → ℕ → ℕ → Type 0
-CommonMoment s f t g = (s < f) × (t < g) × (s < g) × (t < f)
+CommonMoment s f t g = (t < f) × (s < g) × (s < f) × (t < g)
 
 -- ── in 16 bits ──
 -- all four numbers fit: none is above 65,535
@@ -32,9 +32,9 @@ abbrev pub AllFit : ℕ → ℕ → ℕ → ℕ → Type 0
 AllFit a b c d = (a < 65536) × (b < 65536) × (c < 65536) × (d < 65536)
 
 -- 1 if a is below b, else 0
-unfoldable pub one : ℕ → ℕ → ℕ
-one a b = cond (ltb a b) 1 0
+unfoldable pub oneBelow : ℕ → ℕ → ℕ
+oneBelow a b = cond (ltb a b) 1 0
 
 -- how many of four numbers are below p
 abbrev pub rankOf : ℕ → ℕ → ℕ → ℕ → ℕ → ℕ
-rankOf p a b c d = one a p + one b p + one c p + one d p
+rankOf p a b c d = oneBelow a p + oneBelow b p + oneBelow c p + oneBelow d p

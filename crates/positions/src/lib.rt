@@ -1,12 +1,13 @@
 // How the positions of two runs stand to each other, in 16 bits where they fit.
 //
 // `signs_narrow` compares four positions of 16 bits two by two; what it answers, their signs, has no width.
-// `signs_wide` answers the signs of any positions: those of their ranks, which fit in 16 bits and stand to each other as
-// the positions do. `all_fit` tells whether four positions fit, and `cut` cuts one to 16 bits.
-ghost use Prim.Native.Nat.{_%_};
+// `signs_wide` answers the signs of any positions: those of their ranks, which fit in 16 bits and stand to each other
+// as the positions do. `all_fit` tells whether four positions fit, and `cut` cuts one to 16 bits. `have_common` tells
+// by the signs whether two runs have a common moment.
+ghost use Prim.Native.Nat.{ℕ, _%_};
 ghost use mathlib.Core.Path.{_≡_};
 ghost use Rattle.lists.specs.Tells.{Tells};
-ghost use Rattle.positions.specs.Comparison.{signOf, signsOf, one, rankOf, AllFit};
+ghost use Rattle.positions.specs.Comparison.{signOf, signsOf, CommonMoment, AllFit, oneBelow, rankOf};
 
 // The signs of two positions: the first is below the second, the same, or above it.
 pub const BELOW: u8 = 0;
@@ -60,7 +61,7 @@ pub fn signs_narrow(start_a: u16, finish_a: u16, start_b: u16, finish_b: u16) ->
 
 // 1 if q is below p, else 0.
 fn one_below(q: u64, p: u64) -> u16
-    ensures { λ r. ⌜ r ≡ one q p ⌝ }
+    ensures { λ r. ⌜ r ≡ oneBelow q p ⌝ }
 {
     if q < p {
         return 1;
@@ -91,7 +92,19 @@ pub fn signs_wide(start_a: u64, finish_a: u64, start_b: u64, finish_b: u64) -> S
 pub fn all_fit(a: u64, b: u64, c: u64, d: u64) -> bool
     ensures { λ r. ⌜ Tells r (AllFit a b c d) ⌝ }
 {
-    (a | b) | (c | d) < BEYOND
+    if a >= BEYOND {
+        return false;
+    }
+    if b >= BEYOND {
+        return false;
+    }
+    if c >= BEYOND {
+        return false;
+    }
+    if d >= BEYOND {
+        return false;
+    }
+    true
 }
 
 // The lowest 16 bits of a position.
@@ -99,4 +112,23 @@ pub fn cut(p: u64) -> u16
     ensures { λ r. ⌜ r ≡ p % 65536 ⌝ }
 {
     (p % BEYOND) as u16
+}
+
+// Whether two runs have a common moment, by the signs of their positions.
+pub fn have_common(w: Signs) -> bool
+    ensures { λ r. ⌜ ((s f t g : ℕ) → w ≡ signsOf s f t g → Tells r (CommonMoment s f t g)) ⌝ }
+{
+    if w.before != ABOVE {
+        return false;
+    }
+    if w.after != ABOVE {
+        return false;
+    }
+    if w.first != BELOW {
+        return false;
+    }
+    if w.second != BELOW {
+        return false;
+    }
+    true
 }

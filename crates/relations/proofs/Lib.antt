@@ -1,5 +1,5 @@
 pub mod Relation
-pub mod Naming
+pub mod Named
 pub mod Tests
 pub mod Runs
 pub mod Pairs

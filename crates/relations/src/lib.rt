@@ -2,19 +2,13 @@
 //
 // `relation_between` compares the positions of two runs, `relate` two runs of a record. `compose` and `converse` answer the
 // composition of two sets of relations and the converse of one.
-ghost use Prim.Native.Nat.{ℕ};
 ghost use mathlib.Core.Path.{_≡_};
 ghost use lib.ListN.{getD};
-ghost use Rattle.lists.specs.Tells.{Tells};
 ghost use Rattle.trace.specs.Trace.{noRun};
-ghost use Rattle.positions.specs.Comparison.{signOf, signsOf, CommonMoment};
-ghost use Rattle.relations.specs.Relation.{relationOf, Compared};
+ghost use Rattle.relations.specs.Relation.{Compared};
 ghost use Rattle.relations.specs.Runs.{spanOf, Relating, Conversed};
 ghost use Rattle.relations.specs.Compose.{Composition};
 use lists::MAX_RUNS;
-use positions::ABOVE;
-use positions::BELOW;
-use positions::Signs;
 use positions::all_fit;
 use positions::cut;
 use positions::signs_narrow;
@@ -23,6 +17,7 @@ use trace::Record;
 use trace::RunNo;
 use trace::RunTable;
 
+mod naming;
 mod table;
 
 // The six relations by their numbers.
@@ -64,66 +59,19 @@ struct Span {
     finish: u64,
 }
 
-// Whether two runs have a common moment, by the signs of their positions.
-fn have_common(w: Signs) -> bool
-    ensures { λ r. ⌜ ((s f t g : ℕ) → w ≡ signsOf s f t g → Tells r (CommonMoment s f t g)) ⌝ }
-{
-    if w.first != BELOW {
-        return false;
-    }
-    if w.second != BELOW {
-        return false;
-    }
-    if w.after != ABOVE {
-        return false;
-    }
-    if w.before != ABOVE {
-        return false;
-    }
-    true
-}
-
-// The number of the relation of two runs that have a common moment, or 0: the signs of their starts and of their
-// finishes are a place of a table of three times three.
-fn common_name(starts: u8, finishes: u8) -> u8
-    ensures { λ r. ⌜ ((s f t g : ℕ) → starts ≡ signOf s t → finishes ≡ signOf f g → CommonMoment s f t g
-        → r ≡ relationOf s f t g) ⌝ }
-{
-    match 3 * (starts as u16) + (finishes as u16) {
-        // a starts first, and finishes first or last
-        0 => OVERLAPS,
-        2 => INCLUDES,
-        // b starts first, and a finishes first or last
-        6 => DURING,
-        8 => OVERLAPPED,
-        _ => 0,
-    }
-}
-
-// The number of the relation of two runs by the signs of their positions, or 0.
-fn name_of(w: Signs) -> u8
-    ensures { λ r. ⌜ ((s f t g : ℕ) → w ≡ signsOf s f t g → r ≡ relationOf s f t g) ⌝ }
-{
-    if w.before == BELOW {
-        return BEFORE;
-    }
-    if w.after == BELOW {
-        return AFTER;
-    }
-    if have_common(w) {
-        return common_name(w.starts, w.finishes);
-    }
-    0
-}
-
 // The number of the relation of a to b, by where they start and finish, or 0.
 pub fn relation_between(start_a: u64, finish_a: u64, start_b: u64, finish_b: u64) -> u8
     ensures { λ r. ⌜ Compared «start_a» «finish_a» «start_b» «finish_b» r ⌝ }
 {
     if all_fit(start_a, finish_a, start_b, finish_b) {
-        return name_of(signs_narrow(cut(start_a), cut(finish_a), cut(start_b), cut(finish_b)));
+        return naming::name_of(signs_narrow(
+            cut(start_a),
+            cut(finish_a),
+            cut(start_b),
+            cut(finish_b),
+        ));
     }
-    name_of(signs_wide(start_a, finish_a, start_b, finish_b))
+    naming::name_of(signs_wide(start_a, finish_a, start_b, finish_b))
 }
 
 // Where run k of the table starts and finishes.

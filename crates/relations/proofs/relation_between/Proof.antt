@@ -39,7 +39,8 @@ returns c =
     compared _ _ _ _ _
     (c .name-of .ensures _ _ _ _
     (narrow .signs-narrow .ensures
-    ∙ signs-cut _ _ _ _ fit _ _ _ _ (cut1 .cut .ensures) (cut2 .cut2 .ensures) (cut3 .cut3 .ensures) (cut4 .cut4 .ensures)))
+    ∙ signs-cut _ _ _ _ fit _ _ _ _
+    (cut1 .cut .ensures) (cut2 .cut2 .ensures) (cut3 .cut3 .ensures) (cut4 .cut4 .ensures)))
 
 signs-wide-requires : tie.Need-signs-wide-requires
 signs-wide-requires c κs = search needs

@@ -2,9 +2,9 @@
 use mathlib.Core.Path.{ap}
 use borrow.Author.Needs.{needs}
 use Rattle.relations.proofs.Relation.{says-before, says-after}
-use Rattle.relations.proofs.Naming.{is-before, is-after, not-before, not-after, apart-none}
-use Rattle.relations.proofs.name_of.Statement.{statement}
-use Rattle.relations.proofs.name_of.Tie as tie
+use Rattle.relations.proofs.Named.{is-before, is-after, not-before, not-after, apart-none}
+use Rattle.relations.proofs.naming.name_of.Statement.{statement}
+use Rattle.relations.proofs.naming.name_of.Tie as tie
 
 returns : tie.Need-returns
 returns c s f t g e = says-before s f t g (is-before s f t g _ e (c .if1 .taken))

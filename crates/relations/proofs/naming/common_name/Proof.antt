@@ -2,9 +2,9 @@
 use native.Mathlib.Omega.{arith}
 use borrow.Author.Needs.{needs}
 use Rattle.positions.proofs.Signed.{signed}
-use Rattle.relations.proofs.Naming.{common-overlaps, common-includes, common-during, common-overlapped, common-none}
-use Rattle.relations.proofs.common_name.Statement.{statement}
-use Rattle.relations.proofs.common_name.Tie as tie
+use Rattle.relations.proofs.Named.{common-overlaps, common-includes, common-during, common-overlapped, common-none}
+use Rattle.relations.proofs.naming.common_name.Statement.{statement}
+use Rattle.relations.proofs.naming.common_name.Tie as tie
 
 mul-match : tie.Need-mul-match
 mul-match c = search needs

@@ -13,7 +13,8 @@ use Rattle.relations.proofs.Relation as relation
 module _ (s f t g : ℕ) where
   pub apart-none : t ≤ f → s ≤ g → (CommonMoment s f t g → ⊥) → 0 ≡ relationOf s f t g
   apart-none p q n =
-      relation.says-none s f t g p q (λ h. n (omega arith)) (λ h. n (omega arith)) (λ h. n (omega arith)) (λ h. n (omega arith))
+      relation.says-none s f t g p q
+      (λ h. n (omega arith)) (λ h. n (omega arith)) (λ h. n (omega arith)) (λ h. n (omega arith))
 
   -- which starts first and which finishes first: the place of the two signs in a table of three times three
   module _ (x y : ℕ) (starts : Signed s t x) (finishes : Signed f g y) (k : CommonMoment s f t g) where
@@ -33,7 +34,8 @@ module _ (s f t g : ℕ) where
     common-during e =
         let h = starts .above (omega (arith, starts .at-most, finishes .at-most)) in
         let j = finishes .below (omega (arith, starts .at-most, finishes .at-most)) in
-        relation.says-during s f t g (omega arith) (omega arith) (λ r. omega arith) (λ r. omega arith) (λ r. omega arith) (omega arith)
+        relation.says-during s f t g (omega arith) (omega arith)
+        (λ r. omega arith) (λ r. omega arith) (λ r. omega arith) (omega arith)
 
     pub common-overlapped : 3 * x + y ≡ 8 → 8 ≡ relationOf s f t g
     common-overlapped e =
@@ -58,12 +60,6 @@ module _ (s f t g : ℕ) where
     after-signed : Signed g s (w .after)
     after-signed = signed g s _ (ap (λ v. v .after) e)
 
-    first-signed : Signed s f (w .first)
-    first-signed = signed s f _ (ap (λ v. v .first) e)
-
-    second-signed : Signed t g (w .second)
-    second-signed = signed t g _ (ap (λ v. v .second) e)
-
     pub is-before : w .before ≡ 0 → Relates before s f t g
     is-before = before-signed .below
 
@@ -75,18 +71,3 @@ module _ (s f t g : ℕ) where
 
     pub not-after : (w .after ≡ 0 → ⊥) → s ≤ g
     not-after n = either-lt g s (λ h. absurd (n (after-signed .is-below h))) (λ h. h)
-
-    pub has-common : w .first ≡ 0 → w .second ≡ 0 → w .after ≡ 2 → w .before ≡ 2 → CommonMoment s f t g
-    has-common a b c d = (first-signed .below a, second-signed .below b, after-signed .above c, before-signed .above d)
-
-    pub common-first : CommonMoment s f t g → w .first ≡ 0
-    common-first k = first-signed .is-below (k .0)
-
-    pub common-second : CommonMoment s f t g → w .second ≡ 0
-    common-second k = second-signed .is-below (k .1)
-
-    pub common-after : CommonMoment s f t g → w .after ≡ 2
-    common-after k = after-signed .is-above (k .2)
-
-    pub common-before : CommonMoment s f t g → w .before ≡ 2
-    common-before k = before-signed .is-above (k .3)

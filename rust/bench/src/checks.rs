@@ -3,7 +3,7 @@
 
 use crate::logs::MAX_RUNS;
 use crate::table::{seconds, short, Number, Row};
-use crate::{slips, typed};
+use crate::{relating, slips, typed};
 use Limit::{AtLeast, AtMost, NoneDown, NoneUp};
 
 /// The whole-log call and the single-line call, as multiples of the whole-log call with the two-node rule; and the single-line
@@ -68,9 +68,14 @@ fn unlimited((what, limit, number, form): Asked) -> Asked {
     (what, if limit.is_upper() { NoneUp } else { NoneDown }, number, form)
 }
 
-/// Prints a line for each requirement, over the rows of full logs, of typed rules and of slips. Answers whether none
-/// failed.
-pub fn print_checks(rows: &[Row], typed: Option<&typed::Rows>, slips: &[slips::Row]) -> bool {
+/// Prints a line for each requirement, over the rows of full logs, of typed rules, of slips and of an earlier library.
+/// Answers whether none failed.
+pub fn print_checks(
+    rows: &[Row],
+    typed: Option<&typed::Rows>,
+    slips: &[slips::Row],
+    relating: &[relating::Row],
+) -> bool {
     println!("\n## Required\n");
     let of = |rule: &str| rows.iter().filter(|row| row.runs == MAX_RUNS && row.rule.starts_with(rule)).collect::<Vec<&Row>>();
     let (section_6, others): (Vec<&Row>, Vec<&Row>) = of("figure 1").iter().partition(|row| row.log == "section 6");
@@ -82,6 +87,7 @@ pub fn print_checks(rows: &[Row], typed: Option<&typed::Rows>, slips: &[slips::R
         print_all("worst rules", &of("worst"), &WORST),
         typed::print_checks(typed),
         slips::print_checks(slips),
+        relating::print_checks(relating),
     ];
     passed.iter().all(|passed| *passed)
 }

@@ -13,7 +13,9 @@
 //!
 //! The random source is seeded, so a log is the same in every run.
 
+use crate::rules::two_nodes;
 use generate::random::Random;
+use scene_log::{check_log_record, RECORD_BYTES, VERDICT_BYTES, WORK_BYTES};
 use std::fmt::Write;
 
 /// The most runs of a log.
@@ -25,6 +27,16 @@ pub struct Log {
     pub kind: &'static str,
     pub runs: usize,
     pub bytes: Vec<u8>,
+}
+
+impl Log {
+    /// The record that the log leaves, which is the same with any rule.
+    pub fn record(&self) -> Vec<u8> {
+        let (mut record, mut work, mut verdicts) = (vec![0; RECORD_BYTES], vec![0; WORK_BYTES], vec![0; VERDICT_BYTES]);
+        let lines = check_log_record(&two_nodes().file, &self.bytes, &mut record, &mut work, &mut verdicts);
+        assert_eq!(lines.map(usize::from), Ok(2 * self.runs));
+        record
+    }
 }
 
 /// A log that is being written: its text so far, the runs begun, and the ids of the open ones.

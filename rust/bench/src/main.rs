@@ -1,7 +1,8 @@
 //! Times of the proved check, of a plain evaluator and of the published algorithm on the same rules and logs, side by side.
 //!
 //! `cargo run --release -p bench` prints a table for each group of rules, the noise, and whether the times are as required.
-//! `--quick` stops at 32 runs; `--group NAME` measures one group: reading, figure1, section3, worst, typed or slips.
+//! `--quick` stops at 32 runs; `--group NAME` measures one group: reading, figure1, section3, worst, typed, slips or
+//! earlier. SCENE_LOG_EARLIER in the environment names the earlier library of the last of them.
 //! Times differ between machines; the ratios much less. `docs/PERFORMANCE.md` says what each column is.
 
 #[cfg(test)]
@@ -9,16 +10,19 @@ mod agree;
 mod checks;
 #[cfg(test)]
 mod deep;
+mod earlier;
 mod logs;
 mod measure;
 mod plain;
 mod published;
+mod relating;
 mod rules;
 mod slips;
 mod table;
 mod trace;
 mod typed;
 
+use earlier::Library;
 use logs::{begins_first, interleaved, kept, section_6_of_figure_1, section_6_of_section_3, Log, MAX_RUNS};
 use measure::{Noise, Series, Time};
 use reference::rule::read_rule;
@@ -57,18 +61,21 @@ fn all_kinds(property: usize) -> [Measured; 4] {
 }
 
 /// The names of the groups, as `--group` takes them, and their headings.
-const GROUPS: [(&str, &str); 6] = [
+const GROUPS: [(&str, &str); 7] = [
     ("reading", "Reading"),
     ("figure1", "The properties of figure 1"),
     ("section3", "The properties of section 3"),
     ("worst", "The worst rules"),
     (TYPED, "Typed rules"),
     (SLIPS, "Slips"),
+    (EARLIER, "Beside an earlier library"),
 ];
 
-/// The groups with tables of their own: that which has texts instead of logs, and that of the runs that break a rule.
+/// The groups with tables of their own: that which has texts instead of logs, that of the runs that break a rule, and
+/// that which holds this library against an earlier one.
 const TYPED: &str = "typed";
 const SLIPS: &str = "slips";
+const EARLIER: &str = "earlier";
 
 fn group(name: &str) -> Vec<Measured> {
     match name {
@@ -127,14 +134,15 @@ fn growth(half: &Row, runs: usize, whole: Time) -> Option<f64> {
     (both_taken && runs == MAX_RUNS && half.runs == MAX_RUNS / 2).then(|| whole.seconds / half.whole.seconds)
 }
 
-/// What the command line asks for.
+/// What the command line asks for, and the earlier library where it is to be measured and there is one.
 struct Options {
     sizes: &'static [usize],
     groups: Vec<(&'static str, &'static str)>,
+    earlier: Option<Library>,
 }
 
 fn options() -> Result<Options, String> {
-    let mut options = Options { sizes: &[16, 32, 64, 128], groups: GROUPS.to_vec() };
+    let mut options = Options { sizes: &[16, 32, 64, 128], groups: GROUPS.to_vec(), earlier: None };
     let mut words = std::env::args().skip(1);
     while let Some(word) = words.next() {
         match word.as_str() {
@@ -147,13 +155,16 @@ fn options() -> Result<Options, String> {
         }
     }
     if options.groups.is_empty() {
-        return Err("the groups are reading, figure1, section3, worst, typed and slips".into());
+        return Err("the groups are reading, figure1, section3, worst, typed, slips and earlier".into());
+    }
+    if options.groups.iter().any(|(name, _)| *name == EARLIER) {
+        options.earlier = Library::named()?;
     }
     Ok(options)
 }
 
 fn main() -> ExitCode {
-    let Options { sizes, groups } = match options() {
+    let Options { sizes, groups, earlier } = match options() {
         Ok(options) => options,
         Err(message) => {
             eprintln!("bench: {message}; usage: bench [--quick] [--group NAME]");
@@ -163,7 +174,8 @@ fn main() -> ExitCode {
     let (rule, log) = (two_nodes().file, interleaved(MAX_RUNS, &LABELS));
     let mut noise = Noise::default();
     noise.measure("beginning", &rule, &log);
-    let (own, groups): (Vec<_>, Vec<_>) = groups.into_iter().partition(|(name, _)| [TYPED, SLIPS].contains(name));
+    let is_own = |name: &str| [TYPED, SLIPS, EARLIER].contains(&name);
+    let (own, groups): (Vec<_>, Vec<_>) = groups.into_iter().partition(|(name, _)| is_own(name));
     let title_of = |wanted: &str| own.iter().find(|(name, _)| *name == wanted).map(|(_, title)| *title);
     let groups: Vec<_> = groups.iter().map(|(name, title)| (title, group(name))).collect();
     let count: usize = groups.iter().map(|(_, group)| group.len()).sum();
@@ -179,7 +191,8 @@ fn main() -> ExitCode {
     }
     let typed = title_of(TYPED).map(typed::measured);
     let slips = title_of(SLIPS).map(|title| slips::measured(title, sizes[sizes.len() - 1])).unwrap_or_default();
+    let relating = title_of(EARLIER).map(|title| relating::measured(title, earlier.as_ref())).unwrap_or_default();
     noise.measure("end", &rule, &log);
     print_noise(&noise);
-    if checks::print_checks(&rows, typed.as_ref(), &slips) { ExitCode::SUCCESS } else { ExitCode::FAILURE }
+    if checks::print_checks(&rows, typed.as_ref(), &slips, &relating) { ExitCode::SUCCESS } else { ExitCode::FAILURE }
 }

@@ -4,12 +4,17 @@ use crate::logs::Log;
 use crate::trace::Trace;
 use reference::rule::Rule;
 use scene_log::{check_line, check_log, Check, VERDICT_BYTES, WORK_BYTES};
+use std::hint::black_box;
 use std::time::{Duration, Instant};
 
 /// A call is repeated for at least this long, and at least so often unless that takes too long.
 const AT_LEAST: Duration = Duration::from_millis(200);
 const REPEATS: usize = 9;
 const LONG_ENOUGH: Duration = Duration::from_secs(3);
+
+/// Two calls that are held against each other take turns for this long, from 0 to 15 steps of two kinds down the stack.
+const TAKING_TURNS: Duration = Duration::from_secs(2);
+const STEPS: usize = 16;
 
 /// No call is made that is expected to take longer, in seconds.
 const LONGEST: f64 = 20.0;
@@ -28,9 +33,7 @@ fn repeats<S>(state: &mut S, prepare: impl Fn(&mut S), call: impl Fn(&mut S)) ->
     let is_enough = |count| count >= REPEATS || (count > 0 && begin.elapsed() >= LONG_ENOUGH);
     while begin.elapsed() < AT_LEAST || !is_enough(times.len()) {
         prepare(state);
-        let one = Instant::now();
-        call(state);
-        times.push(one.elapsed().as_secs_f64());
+        times.push(seconds_of(|| call(state)));
     }
     times.sort_by(f64::total_cmp);
     times
@@ -77,6 +80,42 @@ pub fn lent_buffer(
     let mut state = (Ok(0), vec![0; length]);
     let times = repeats(&mut state, |_| {}, |(answer, buffer)| *answer = call(buffer));
     (times[0], state)
+}
+
+/// The time of one call.
+pub fn seconds_of(call: impl FnOnce()) -> f64 {
+    let begin = Instant::now();
+    call();
+    begin.elapsed().as_secs_f64()
+}
+
+/// A time that is taken so many steps further down the stack. A step has so many bytes, and some more.
+#[inline(never)]
+fn seconds_below<const BYTES: usize>(steps: usize, take: &dyn Fn() -> f64) -> f64 {
+    let room = black_box([0_u8; BYTES]);
+    let time = if steps == 0 { take() } else { seconds_below::<BYTES>(steps - 1, take) };
+    black_box(&room);
+    time
+}
+
+/// The shortest times of two calls that take turns: each goes first in every other round. A call takes longer where the
+/// stack stands badly in its page, and that is not the same place for both; so it is moved after every two rounds.
+pub fn in_turns(one: impl Fn(), other: impl Fn()) -> (f64, f64) {
+    let begin = Instant::now();
+    let (mut shortest, mut shortest_other) = (f64::INFINITY, f64::INFINITY);
+    let mut round = 0;
+    while begin.elapsed() < TAKING_TURNS {
+        // The two kinds of steps differ by 16 bytes, so that together they reach most places of a page.
+        let below = |take: &dyn Fn() -> f64| {
+            seconds_below::<16>(round / STEPS % STEPS, &|| seconds_below::<32>(round % STEPS, take))
+        };
+        shortest = shortest.min(below(&|| seconds_of(&one)));
+        shortest_other = shortest_other.min(below(&|| seconds_of(&other)));
+        shortest_other = shortest_other.min(below(&|| seconds_of(&other)));
+        shortest = shortest.min(below(&|| seconds_of(&one)));
+        round += 1;
+    }
+    (shortest, shortest_other)
 }
 
 /// One of the two baselines: the verdict of every line.

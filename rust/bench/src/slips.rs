@@ -4,14 +4,13 @@ mod worst;
 
 use crate::checks::{print_numbers, Limit};
 use crate::logs::{begins_first, interleaved, kept, section_6_of_figure_1, section_6_of_section_3, Log, MAX_RUNS};
+use crate::measure::seconds_of;
 use crate::rules::{figure_1, section_3, two_nodes, Case};
 use crate::table::{seconds, short, Number};
 use crate::{measure, LABELS};
 use reference::rule::read_rule;
 use reference::slip::form_of;
-use scene_log::{check_log_record, slip_passes, write_first_slip, Refusal};
-use scene_log::{RECORD_BYTES, SLIP_BYTES, VERDICT_BYTES, WORK_BYTES};
-use std::time::Instant;
+use scene_log::{slip_passes, write_first_slip, Refusal, SLIP_BYTES, VERDICT_BYTES, WORK_BYTES};
 use worst::{searched, worst, LAST};
 
 /// On the properties of the paper, finding and passing as multiples of the whole-log call with the two-node rule.
@@ -44,19 +43,11 @@ pub struct Row {
     whole: f64,
 }
 
-/// The record that a log leaves.
-fn record_after(log: &Log) -> Vec<u8> {
-    let (mut record, mut work, mut verdicts) = (vec![0; RECORD_BYTES], vec![0; WORK_BYTES], vec![0; VERDICT_BYTES]);
-    let lines = check_log_record(&two_nodes().file, &log.bytes, &mut record, &mut work, &mut verdicts);
-    assert_eq!(lines.map(usize::from), Ok(2 * log.runs));
-    record
-}
-
 /// Measures and prints one rule on one log. The rule fails at the last line exactly where a slip is found, and that one
 /// passes; where there is none, the slip that is handed in has the last run for each "some".
 fn row(rule: &Case, log: &Log) -> Row {
     let file = &rule.file;
-    let record = record_after(log);
+    let record = log.record();
     let (whole, verdicts) = measure::whole_log(file, log);
     let find = |slip: &mut [u8]| write_first_slip(file, &record, slip).map_err(Refusal::number);
     let (finding, (found, mut slip)) = measure::lent_buffer(SLIP_BYTES, find);
@@ -93,20 +84,15 @@ fn logs_of_worst(runs: usize) -> [Log; 2] {
 
 /// Random rules that are slow on this log: the time of one call each, and of one check.
 fn slow_rules(log: &Log) -> Vec<Case> {
-    let record = record_after(log);
-    let seconds_of = |call: &mut dyn FnMut()| {
-        let begin = Instant::now();
-        call();
-        begin.elapsed().as_secs_f64()
-    };
+    let record = log.record();
     let mut timed: Vec<(f64, f64, u64)> = (0..SEARCHED)
         .map(|seed| {
             let file = searched(seed).file;
             let (mut work, mut verdicts) = (vec![0; WORK_BYTES], vec![0; VERDICT_BYTES]);
-            let finding = seconds_of(&mut || {
+            let finding = seconds_of(|| {
                 let _ = write_first_slip(&file, &record, &mut [0; SLIP_BYTES]);
             });
-            let whole = seconds_of(&mut || {
+            let whole = seconds_of(|| {
                 let _ = scene_log::check_log(&file, &log.bytes, &mut work, &mut verdicts);
             });
             (finding, finding / whole, seed)
@@ -197,7 +183,7 @@ mod tests {
         let (accepted, _) = accepted_lines(&log.bytes);
         let mut slip = vec![0; SLIP_BYTES];
         let runs = by_reference::first_slip(&rule.file, &record_of(&accepted), &mut slip).expect("a rule with slips");
-        let record = record_after(log);
+        let record = log.record();
         let mut found = vec![0; SLIP_BYTES];
         let message = format!("{}, {}", rule.name, log.kind);
         assert_eq!(write_first_slip(&rule.file, &record, &mut found), Ok(runs), "{message}");

@@ -7,9 +7,11 @@
 //!
 //! `texts` has cases of its own for rules typed by hand: `text_case(seed)` for reading a
 //! text, `rule_case(seed)` for writing one. `slips` has those for the runs that break a
-//! rule: `slip_case(seed)`.
+//! rule: `slip_case(seed)`. `positions` has those for where two runs start and finish:
+//! `position_case(seed)`.
 
 pub mod logs;
+pub mod positions;
 pub mod random;
 pub mod records;
 pub mod rules;

@@ -6,6 +6,7 @@
 use crate::formula::{before, includes, overlaps, FinishedRun};
 use crate::trace::{accepted_lines, runs_of};
 use crate::Refusal;
+use std::collections::BTreeMap;
 use std::sync::OnceLock;
 
 pub const BEFORE: u8 = 1;
@@ -31,6 +32,36 @@ pub fn relation_of(first: &FinishedRun, second: &FinishedRun) -> u8 {
         }
     }
     relation
+}
+
+/// The relation of a to b by their positions, which may be any numbers: the first that holds, in the order
+/// of the relations' numbers, or 0.
+///
+/// The positions are written down from left to right as words: a and b for a start, A and B for a finish,
+/// the letters of equal positions in one word. Runs with a common moment make four words of one letter. One
+/// run is before another if its finish is to the left of the other's start, wherever the rest stands. Each
+/// can be before the other where a run finishes before it starts.
+pub fn relation_of_positions(start_a: u64, finish_a: u64, start_b: u64, finish_b: u64) -> u8 {
+    let mut line: BTreeMap<u64, String> = BTreeMap::new();
+    for (letter, position) in [('a', start_a), ('A', finish_a), ('b', start_b), ('B', finish_b)] {
+        line.entry(position).or_default().push(letter);
+    }
+    let words: Vec<String> = line.into_values().collect();
+    match words.join(" ").as_str() {
+        "a b A B" => OVERLAPS,
+        "b a B A" => OVERLAPPED_BY,
+        "a b B A" => INCLUDES,
+        "b a A B" => DURING,
+        _ if is_left_of('A', 'b', &words) => BEFORE,
+        _ if is_left_of('B', 'a', &words) => AFTER,
+        _ => 0,
+    }
+}
+
+/// Whether the word with one letter stands to the left of the word with the other.
+fn is_left_of(one: char, other: char, words: &[String]) -> bool {
+    let from_one = words.iter().skip_while(|word| !word.contains(one));
+    from_one.skip(1).any(|word| word.contains(other))
 }
 
 /// The set of the members' converses, or 14. The paper names no such call; the
@@ -191,5 +222,26 @@ mod tests {
                 assert_eq!(converse(relation.into()), Ok(relation_of(b, a)));
             }
         }
+    }
+
+    /// `relation_of` adds up all that hold by their inequalities; the first of them has the lowest number.
+    /// Of 36 pairs of numbers 15 rise, so before holds of 15 * 36 quadruples, after too of 15 * 15 of these,
+    /// and after alone of 15 * 21; four numbers rise in 15 ways.
+    #[test]
+    fn the_order_on_the_line_tells_the_first_inequality_that_holds() {
+        let run = |start, finish| FinishedRun { start, finish, label: None };
+        let mut answered: BTreeMap<u8, u64> = BTreeMap::new();
+        let mut several = 0;
+        for number in 0..6_u64.pow(4) {
+            let [s, f, t, g] = [216, 36, 6, 1].map(|place| number / place % 6);
+            let held = relation_of(&run(s, f), &run(t, g));
+            let first = held & held.wrapping_neg();
+            assert_eq!(relation_of_positions(s, f, t, g), first, "{s} {f} {t} {g}");
+            *answered.entry(first).or_default() += 1;
+            several += u64::from(held.count_ones() > 1);
+        }
+        let counts = [(0, 381), (BEFORE, 540), (AFTER, 315), (OVERLAPS, 15), (OVERLAPPED_BY, 15), (INCLUDES, 15)];
+        assert_eq!(answered, BTreeMap::from_iter(counts.into_iter().chain([(DURING, 15)])));
+        assert_eq!(several, 225);
     }
 }

@@ -33,8 +33,9 @@ p('positions')
 for q in [(1,2,3,4),(3,4,1,2),(1,3,2,4),(2,4,1,3),(1,4,2,3),(2,3,1,4),(0,M-1,1,M),(0,M,1,M-1),(M-1,M,0,M-2)]: bet(*q)
 p('other numbers')
 for q in [(1,2,2,3),(1,3,1,4),(1,4,2,4),(1,4,1,4),(5,5,5,5),(9,1,5,2),(9,7,5,2),(4,1,3,2)]: bet(*q)
-# positions about 65,535, 2^32 and 2^64 - 1 on each of the four places of each order; all four positions there; and such
-# as differ above their lowest 16 bits alone
+# positions about 65,535, 2^32 and 2^64 - 1 on each of the four places of each order; 2^64 - 1 beside 131,071, whose
+# lowest 16 bits are the same, and beside 65,535; all four positions there; and such as differ above their lowest 16
+# bits alone
 ORDERS=[(1,2,3,4),(3,4,1,2),(1,3,2,4),(2,4,1,3),(1,4,2,3),(2,3,1,4)]
 def wide_cases():
     for v in (65535,65536,2**32,M):
@@ -44,6 +45,7 @@ def wide_cases():
         for other in range(4):
             if other!=place:
                 for q in ORDERS[2:]: yield tuple(M if k==place else 131071 if k==other else n for k,n in enumerate(q))
+    yield from [(M,3,2,65535),(1,M,2,65535),(2,65535,M,3),(1,65535,2,M)]
     for low in (65533,65534,65535,2**32-2,M-4):
         for q in ORDERS: yield tuple(low+n for n in q)
     for q in [(0,65536,65536,131072),(65536,65536,0,0),(65536,65537,0,1),(0,1,65536,65537),(0,65537,1,65536),
@@ -51,10 +53,11 @@ def wide_cases():
               (M,0,M,0),(2**32,2**33,0,0)]: yield q
 p('wide positions')
 for q in dict.fromkeys(wide_cases()): bet(*q)
-# each place and each size tells positions from their lowest 16 bits
+# each size on each place, with no other position that does not fit, tells positions from their lowest 16 bits
 for v in (65536,2**32,M):
     for place in range(4):
-        assert any(q[place]==v and between(*q)!=between(*(n%65536 for n in q)) for q in wide_cases()), (v,place)
+        alone=[q for q in wide_cases() if q[place]==v and all(n<65536 for k,n in enumerate(q) if k!=place)]
+        assert any(between(*q)!=between(*(n%65536 for n in q)) for q in alone), (v,place)
 def comp(a,b):
     p(f"{a} {b}: "+(f"R14" if a>63 or b>63 else str(compose(a,b))))
 p('single compositions')

@@ -6,10 +6,10 @@ use Rattle.positions.specs.Comparison.{signsOf, CommonMoment}
 use Rattle.positions.proofs.Signed.{Signed, signed}
 
 module _ (w : Signs) (s f t g : ℕ) (e : w ≡ signsOf s f t g) where
-  of-before : Signed f t (w .before)
+  pub of-before : Signed f t (w .before)
   of-before = signed f t _ (ap (λ v. v .before) e)
 
-  of-after : Signed g s (w .after)
+  pub of-after : Signed g s (w .after)
   of-after = signed g s _ (ap (λ v. v .after) e)
 
   of-first : Signed s f (w .first)

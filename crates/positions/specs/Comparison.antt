@@ -1,3 +1,4 @@
+-- How the code works, not what it means.
 -- The positions of two runs, compared two by two: the first starts at s and finishes at f, the second starts at t and
 -- finishes at g. "The routine that compares two runs' positions works in 64-bit numbers although no line passes 256.
 -- Hold them in 16 bits inside it. (..) a position above 65,535, if its promise allows one, is still compared as now."

@@ -1,12 +1,13 @@
 -- Why the signs of four positions name their relation. Runs that are neither before nor after each other relate only if
 -- they have a common moment; then which starts first and which finishes first decide.
-use Prim.Native.Nat.{ℕ, _+_, _*_, _<_, _≤_}
-use mathlib.Core.Path.{_≡_, ap}
+use Prim.Native.Nat.{ℕ, _+_, _*_, _≤_}
+use mathlib.Core.Path.{_≡_}
 use native.Mathlib.Omega.{arith}
 use Rattle.lists.proofs.Cases.{either-lt}
 use Rattle.positions.specs.declared.Signs.{Signs}
 use Rattle.positions.specs.Comparison.{signsOf, CommonMoment}
-use Rattle.positions.proofs.Signed.{Signed, signed}
+use Rattle.positions.proofs.Signed.{Signed}
+use Rattle.positions.proofs.Common.{of-before, of-after}
 use Rattle.relations.specs.Relation.{before, after, Relates, relationOf}
 use Rattle.relations.proofs.Relation as relation
 
@@ -54,20 +55,14 @@ module _ (s f t g : ℕ) where
 
   -- ── the signs of the four ──
   module _ (w : Signs) (e : w ≡ signsOf s f t g) where
-    before-signed : Signed f t (w .before)
-    before-signed = signed f t _ (ap (λ v. v .before) e)
-
-    after-signed : Signed g s (w .after)
-    after-signed = signed g s _ (ap (λ v. v .after) e)
-
     pub is-before : w .before ≡ 0 → Relates before s f t g
-    is-before = before-signed .below
+    is-before = of-before w s f t g e .below
 
     pub is-after : w .after ≡ 0 → Relates after s f t g
-    is-after = after-signed .below
+    is-after = of-after w s f t g e .below
 
     pub not-before : (w .before ≡ 0 → ⊥) → t ≤ f
-    not-before n = either-lt f t (λ h. absurd (n (before-signed .is-below h))) (λ h. h)
+    not-before n = either-lt f t (λ h. absurd (n (of-before w s f t g e .is-below h))) (λ h. h)
 
     pub not-after : (w .after ≡ 0 → ⊥) → s ≤ g
-    not-after n = either-lt g s (λ h. absurd (n (after-signed .is-below h))) (λ h. h)
+    not-after n = either-lt g s (λ h. absurd (n (of-after w s f t g e .is-below h))) (λ h. h)

@@ -18,6 +18,7 @@ fn common_name(starts: u8, finishes: u8) -> u8
     ensures { λ r. ⌜ ((s f t g : ℕ) → starts ≡ signOf s t → finishes ≡ signOf f g → CommonMoment s f t g
         → r ≡ relationOf s f t g) ⌝ }
 {
+    // In 16 bits, where no two bytes are too large for it.
     match 3 * (starts as u16) + (finishes as u16) {
         // a starts first, and finishes first or last
         0 => OVERLAPS,

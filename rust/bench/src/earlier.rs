@@ -39,7 +39,7 @@ impl Library {
         // A whole path: dlopen looks for a name without a slash in the system's folders.
         let path = fs::canonicalize(path).map_err(|error| format!("{}: {error}", path.display()))?;
         let file = CString::new(path.as_os_str().as_bytes()).expect("a path has no byte 0");
-        // Safe: the name ends with a byte 0, and the library has no code that runs when it is loaded.
+        // Safe if the file is what `scripts/earlier` makes: then loading it runs no code but the C compiler's own.
         let library = unsafe { dlopen(file.as_ptr(), RTLD_NOW | RTLD_LOCAL) };
         if library.is_null() {
             return Err(last_error());
@@ -65,8 +65,13 @@ fn call_of(library: *mut c_void, name: &CStr) -> Result<*mut c_void, String> {
 
 /// What went wrong last.
 fn last_error() -> String {
-    // Safe: after a failure there is a message that ends with a byte 0, and it stands until the next call of the three.
-    unsafe { CStr::from_ptr(dlerror()) }.to_string_lossy().into_owned()
+    // Safe: the call takes nothing.
+    let message = unsafe { dlerror() };
+    if message.is_null() {
+        return "there is no message".into();
+    }
+    // Safe: a message ends with a byte 0, and stands until the next call of the three.
+    unsafe { CStr::from_ptr(message) }.to_string_lossy().into_owned()
 }
 
 #[cfg(test)]
@@ -94,8 +99,9 @@ pub mod tests {
     /// As `scripts/earlier` makes it, of the present version.
     #[test]
     fn a_shared_object_of_the_archive_answers_as_the_library_does() {
-        let archive = concat!(env!("CARGO_MANIFEST_DIR"), "/../../target/staticlib/libscene_log.a");
-        let files = ["-Wl,--whole-archive", archive, "-Wl,--no-whole-archive"];
+        let made = concat!(env!("CARGO_MANIFEST_DIR"), "/../../target/staticlib/libscene_log.a");
+        let archive = env::var("SCENE_LOG_ARCHIVE").unwrap_or(made.into());
+        let files = ["-Wl,--whole-archive", &archive, "-Wl,--no-whole-archive"];
         let library = library_of("present", &files, "").unwrap();
         for log in [interleaved(9, &LABELS), begins_first(9, &LABELS)] {
             let record = log.record();

@@ -103,17 +103,17 @@ fn seconds_below<const BYTES: usize>(steps: usize, take: &dyn Fn() -> f64) -> f6
 pub fn in_turns(one: impl Fn(), other: impl Fn()) -> (f64, f64) {
     let begin = Instant::now();
     let (mut shortest, mut shortest_other) = (f64::INFINITY, f64::INFINITY);
-    let mut round = 0;
+    let mut place = 0;
     while begin.elapsed() < TAKING_TURNS {
-        // The two kinds of steps differ by 16 bytes, so that together they reach most places of a page.
+        // The two kinds of steps differ by 16 bytes, so that together they reach many places of a page.
         let below = |take: &dyn Fn() -> f64| {
-            seconds_below::<16>(round / STEPS % STEPS, &|| seconds_below::<32>(round % STEPS, take))
+            seconds_below::<16>(place / STEPS % STEPS, &|| seconds_below::<32>(place % STEPS, take))
         };
         shortest = shortest.min(below(&|| seconds_of(&one)));
         shortest_other = shortest_other.min(below(&|| seconds_of(&other)));
         shortest_other = shortest_other.min(below(&|| seconds_of(&other)));
         shortest = shortest.min(below(&|| seconds_of(&one)));
-        round += 1;
+        place += 1;
     }
     (shortest, shortest_other)
 }

@@ -119,8 +119,9 @@ mod tests {
     #[test]
     #[should_panic(expected = "the libraries differ")]
     fn a_library_with_other_answers_is_not_measured() {
-        let text = "unsigned scene_log_relate(void) { return 1; }";
-        row(&library_of("before", &["-x", "c", "-"], text).unwrap(), &interleaved(2, &LABELS));
+        let arguments = "const unsigned char *record, unsigned long length, unsigned first, unsigned second";
+        let text = format!("unsigned scene_log_relate({arguments}) {{ return 1; }}");
+        row(&library_of("before", &["-x", "c", "-"], &text).unwrap(), &interleaved(2, &LABELS));
     }
 
     #[test]

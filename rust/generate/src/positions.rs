@@ -13,7 +13,7 @@ pub struct PositionCase {
     pub positions: [u64; 4],
 }
 
-/// Numbers at which a width of 8, 16, 17, 32 or 64 bits begins or ends.
+/// Numbers at and beside the ends of 8, 16, 17, 32, 48 and 64 bits.
 pub const EDGES: [u64; 16] = [
     0,
     1,

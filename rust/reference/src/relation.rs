@@ -38,7 +38,7 @@ pub fn relation_of(first: &FinishedRun, second: &FinishedRun) -> u8 {
 /// of the relations' numbers, or 0.
 ///
 /// The positions are written down from left to right as words: a and b for a start, A and B for a finish,
-/// the letters of equal positions in one word. Runs with a common moment make four words of one letter. One
+/// the letters of equal positions in one word. Runs that overlap or include each other make four words of one letter. One
 /// run is before another if its finish is to the left of the other's start, wherever the rest stands. Each
 /// can be before the other where a run finishes before it starts.
 pub fn relation_of_positions(start_a: u64, finish_a: u64, start_b: u64, finish_b: u64) -> u8 {

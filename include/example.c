@@ -81,7 +81,8 @@ static int record_of_log(void) {
 /* Prints the runs that break a rule which is "not" over "some". The rule up to here is another, and has no slips. */
 static int show_slip(void) {
     static const char none_before[] = "!exist A, B . A < B";
-    static const char log[] = "B 1\nB 2\nE 1\nB 3\nE 3\nE 2\n";
+    /* Id 1 is used again: runs 0 and 2 have it. */
+    static const char log[] = "B 1\nB 2\nE 1\nB 1\nE 1\nE 2\n";
     uint8_t slip[SCENE_LOG_SLIP_BYTES];
     scene_log_answer answer = scene_log_first_slip(rule, rule_length, record, sizeof record, slip, sizeof slip);
     say_refused("a slip of this rule", SCENE_LOG_REFUSAL(answer));

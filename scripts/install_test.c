@@ -71,9 +71,9 @@ static void try_answers(void) {
     tally[SCENE_LOG_COUNT_LINES] = 0;
     verdict = scene_log_check_line_tallied(OF(rule), OF(record), tally, 5, OF(work), BYTES("B 1\n"));
     EXPECT(SCENE_LOG_FAILS(verdict) && tally[SCENE_LOG_COUNT_OPEN] == 1 && tally[SCENE_LOG_COUNT_FAILING] == 1);
-    answer = scene_log_check_log(OF(rule), BYTES("B 1\nE 1\nB 1\n"), OF(work), OF(verdicts));
-    EXPECT(SCENE_LOG_LINES(answer) == 2 && SCENE_LOG_REFUSED_LINE(answer) == 3);
-    EXPECT(SCENE_LOG_REFUSAL(answer) == SCENE_LOG_BEGUN_BEFORE);
+    answer = scene_log_check_log(OF(rule), BYTES("B 1\nE 1\nB 1\nB 1\n"), OF(work), OF(verdicts));
+    EXPECT(SCENE_LOG_LINES(answer) == 3 && SCENE_LOG_REFUSED_LINE(answer) == 4);
+    EXPECT(SCENE_LOG_REFUSAL(answer) == SCENE_LOG_STILL_OPEN);
     answer = scene_log_check_log(OF(rule), BYTES("B 1\nE 1\n"), OF(work), OF(verdicts));
     EXPECT(SCENE_LOG_LINES(answer) == 2 && SCENE_LOG_REFUSED_LINE(answer) == 0 && SCENE_LOG_REFUSAL(answer) == 0);
     answer = scene_log_check_log(NULL, 0, BYTES("B 1\n"), OF(work), OF(verdicts));

@@ -3,7 +3,7 @@
 -- stands in the trace after the last (`Said`). And a log grows by a line just where the line meets no refusal.
 use Prim.Native.Nat.{ℕ, suc, _+_, _≤_, _<_}
 use mathlib.Core.Path.{_≡_, refl, ap, sym, _∙_, subst}
-use mathlib.Core.Logic.{_≢_}
+use mathlib.Core.Logic.{_≢_, _↔_}
 use mathlib.Core.List.{List, [], _∷_, _++_, append-assoc}
 use native.Mathlib.Omega.{arith}
 use lib.ListN.{length, getD, length-append, List·getD-append}
@@ -21,7 +21,9 @@ use Rattle.lines.specs.Log.{linesOf}
 use Rattle.trace.specs.declared.Run.{Run}
 use Rattle.trace.specs.Trace.{Trace, Answer, next, noTrace, noRun, runAt, newRun, shut, beginLine, endLine, Finished, begin, end, apply, step, steps, read, Accepted}
 use Rattle.trace.proofs.Taken.{Begun, Ended, begin-taken, end-taken, line-event, line-taken, line-lines, by-answer, not-taken}
-use Rattle.trace.proofs.Closed.{RunOf, begun-run, close-long}
+use Rattle.trace.proofs.Closed.{Closing, closing-of, close-long}
+use Rattle.trace.specs.Orderly.{OpenAt, Orderly}
+use Rattle.trace.proofs.Accepted.{accepted-orderly}
 use Rattle.trace.proofs.Kept.{Kept}
 use Rattle.trace.proofs.Bounds.{accepted-sound}
 use Rattle.trace.proofs.Induction.{accepted-keeps}
@@ -58,8 +60,8 @@ begin-keeps t i x k h =
       number = ap (λ (r : Run). r .label .0) e;
     }
 
--- an end line changes the run of its id, which is open, and of that nothing but the end line
-module _ (t : Trace) (i : ℕ) (c : RunOf i (t .runs)) where
+-- an end line changes the open run of its id, and of that nothing but the end line
+module _ (t : Trace) (i : ℕ) (c : Closing i (t .runs)) where
   closed-run : runAt (end t i) (c .at) ≡ shut (t .lines + 1) (runAt t (c .at))
   unfolding end
   closed-run = rw (c .closes (t .lines + 1)) (getD-set-same (t .runs) (c .at) _ noRun (c .low))
@@ -74,11 +76,11 @@ module _ (t : Trace) (i : ℕ) (c : RunOf i (t .runs)) where
 
 end-keeps : (t : Trace) (i : ℕ) (u : Trace) → Ended t i u → KeepsAll t (end t i)
 end-keeps t i u b k h =
-    let c : RunOf i (t .runs) = begun-run i (t .runs) (b .old) in
+    let c : Closing i (t .runs) = closing-of i (t .runs) (b .running) in
     either-eq k (c .at)
     (λ e.
     let r : runAt (end t i) k ≡ shut (t .lines + 1) (runAt t k) = rw e (closed-run t i c) in
-    let o : endLine (runAt t k) ≡ 0 = rw e (c .ends ∙ b .running) in
+    let o : endLine (runAt t k) ≡ 0 = rw e (c .running) in
     record {
       low = omega (arith, end-long t i c);
       id = ap (λ (r : Run). r .id) r;
@@ -162,7 +164,7 @@ begin-adds t u i s e =
       bare = λ z. ap (λ (r : Run). r .label .0) r ∙ no-number (t .labels) s z;
     }
 
-closed-adds : (t : Trace) (i : ℕ) → RunOf i (t .runs) → EndedAt (end t i) (t .lines + 1) i
+closed-adds : (t : Trace) (i : ℕ) → Closing i (t .runs) → EndedAt (end t i) (t .lines + 1) i
 closed-adds t i c =
     let r : runAt (end t i) (c .at) ≡ shut (t .lines + 1) (runAt t (c .at)) = closed-run t i c in
     record {
@@ -175,7 +177,7 @@ end-adds : (t u : Trace) (i : ℕ) → apply t (ends i) ≡ next u → EndedAt u
 unfolding apply
 end-adds t u i e =
     let b : Ended t i u = end-taken t i u e in
-    subst (λ (v : Trace). EndedAt v (t .lines + 1) i) (sym (b .is)) (closed-adds t i (begun-run i (t .runs) (b .old)))
+    subst (λ (v : Trace). EndedAt v (t .lines + 1) i) (sym (b .is)) (closed-adds t i (closing-of i (t .runs) (b .running)))
 
 -- a label that a begin line adds is its run's, and is higher than those of the runs before
 new-number : (ls : List Label) (x : Label) (m : ℕ) → length ls < m → m ≤ length (withLabel ls x) → numberOf ls x ≡ m
@@ -287,13 +289,42 @@ accepted-said log t a =
     log t a (record { done = []; joined = refl; said = said-none }) in
     subst (λ (ls : List (List ℕ)). Said ls t) (sym (append-nil (r .done)) ∙ r .joined) (r .said)
 
+-- ── the run that is open before a line ──
+module _ (t : Trace) (o : Orderly t) (n i : ℕ) where
+  open-before : (k : ℕ) → endLine (runAt t k) ≡ suc n → OpenAt n (runAt t k)
+  open-before k e = let h = o .forward k (omega arith) in record { begun = omega arith; not-ended = λ f. omega arith }
+
+  closes-open : EndedAt t (suc n) i → (k : ℕ) → HasId t i k → OpenAt n (runAt t k) ↔ (endLine (runAt t k) ≡ suc n)
+  closes-open b k h =
+      let r : ℕ = b .run in (
+        λ p.
+            let e : k ≡ r = o .one-open n k r (h .begun) (b .named .begun) (h .named ∙ sym (b .named .named)) p (open-before r (b .line)) in
+            ap (λ (j : ℕ). endLine (runAt t j)) e ∙ b .line,
+        open-before k,
+      )
+
+  begins-none-open : (s : List ℕ) → BegunAt t (suc n) i s → (k : ℕ) → HasId t i k → OpenAt n (runAt t k) → ⊥
+  begins-none-open s b k h p =
+      let r : ℕ = b .run in
+      either-lt k r
+      (λ l.
+      let w = o .ids k r l (b .named .begun) (h .named ∙ sym (b .named .named)) in
+      omega (arith, w .1, b .line, p .not-ended (w .0)))
+      (λ l.
+      either-eq k r
+      (λ e. let z : beginLine (runAt t k) ≡ beginLine (runAt t r) = ap (λ (j : ℕ). beginLine (runAt t j)) e in omega (arith, b .line, p .begun))
+      (λ d. omega (arith, o .order r k (omega arith) (h .begun), b .line, p .begun)))
+
 pub accepted-spoken : (log : List ℕ) (t : Trace) → Accepted log t → Spoken log t
 accepted-spoken log t a =
     let s : Said (linesOf log) t = accepted-said log t a in
+    let o : Orderly t = accepted-orderly log t a in
     record {
       count = s .count;
       begins = λ n i x h b. s .begun n i x h (begins-says _ i x .1 b);
       ends = λ n i h b. s .ended n i h (ends-says _ i .1 b);
+      none-open = λ n i x h b. begins-none-open t o n i x (s .begun n i x h (begins-says _ i x .1 b));
+      closes = λ n i h b. closes-open t o n i (s .ended n i h (ends-says _ i .1 b));
       distinct = accepted-sound log t a .distinct;
       appears = s .appears;
     }

@@ -20,20 +20,28 @@ pub record HasId (t : Trace) (i k : ℕ) : Type 0 where
 abbrev pub NoRunHas : Trace → ℕ → Type 0
 NoRunHas t i = (k : ℕ) → HasId t i k → ⊥
 
+-- run k has it and is open; no run of it is open
+pub record OpenRun (t : Trace) (i k : ℕ) : Type 0 where
+  pub has : HasId t i k
+  pub not-finished : Finished (runAt t k) → ⊥
+
+abbrev pub NoneOpen : Trace → ℕ → Type 0
+NoneOpen t i = (k : ℕ) → OpenRun t i k → ⊥
+
 -- "11, 12, 13, then 15, 18, 19 or 16, 17"
 pub data MetAfter (t : Trace) (line : List ℕ) (c : ℕ) : Type 0 where
   own-bytes : MetBytes line c → MetAfter t line c
-  -- "15 begin with an id already begun, open or finished"
-  begun-before : (i : ℕ) (l : List ℕ) → Begins line i l → (k : ℕ) → HasId t i k → c ≡ 15 → MetAfter t line c
+  -- "15 only while the id's run is open"
+  still-open : (i : ℕ) (l : List ℕ) → Begins line i l → (k : ℕ) → OpenRun t i k → c ≡ 15 → MetAfter t line c
   -- "18 a 129th run"
-  run-129 : (i : ℕ) (l : List ℕ) → Begins line i l → NoRunHas t i → maxRuns ≤ length (t .runs) → c ≡ 18
+  run-129 : (i : ℕ) (l : List ℕ) → Begins line i l → NoneOpen t i → maxRuns ≤ length (t .runs) → c ≡ 18
       → MetAfter t line c
   -- "19 a 65th label": 64 labels before it, and the line's is none of them
-  label-65 : (i : ℕ) (l : List ℕ) → Begins line i l → NoRunHas t i → length (t .runs) < maxRuns → l ≢ []
+  label-65 : (i : ℕ) (l : List ℕ) → Begins line i l → NoneOpen t i → length (t .runs) < maxRuns → l ≢ []
       → maxLogLabels ≤ length (t .labels)
       → ((n : ℕ) → 1 ≤ n → n ≤ length (t .labels) → text (labelAt (t .labels) n) ≢ l)
       → c ≡ 19 → MetAfter t line c
   -- "16 end with an id never begun"
   never-begun : (i : ℕ) → Ends line i → NoRunHas t i → c ≡ 16 → MetAfter t line c
-  -- "17 end with an id already ended"
-  ended-before : (i : ℕ) → Ends line i → (k : ℕ) → HasId t i k → Finished (runAt t k) → c ≡ 17 → MetAfter t line c
+  -- "17 if the id has begun and none is open"
+  none-open : (i : ℕ) → Ends line i → (k : ℕ) → HasId t i k → NoneOpen t i → c ≡ 17 → MetAfter t line c

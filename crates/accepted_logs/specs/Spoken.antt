@@ -3,12 +3,13 @@
 -- meets no refusal.
 use Prim.Native.Nat.{ℕ, suc, _≤_, _<_}
 use mathlib.Core.Path.{_≡_}
-use mathlib.Core.Logic.{_≢_}
+use mathlib.Core.Logic.{_≢_, _↔_}
 use mathlib.Core.List.{List, [], _∷_, _++_}
 use lib.ListN.{length, getD}
 use Rattle.labels.specs.Table.{Distinct}
 use Rattle.lines.specs.Log.{linesOf}
 use Rattle.trace.specs.Trace.{Trace, runAt, beginLine, endLine, Accepted}
+use Rattle.trace.specs.Orderly.{OpenAt}
 use Rattle.grammar.specs.Forms.{Begins, Ends}
 use Rattle.logic.specs.Satisfies.{HasLabel}
 use Rattle.accepted_logs.specs.MetAfter.{HasId, MetAfter}
@@ -21,7 +22,7 @@ pub record BegunAt (t : Trace) (l i : ℕ) (s : List ℕ) : Type 0 where
   pub labelled : s ≢ [] → HasLabel t run s
   pub bare : s ≡ [] → runAt t run .label .0 ≡ 0
 
--- "A run is finished once its end line is among the lines read": the run with the id i, which ends at line l
+-- "A run is finished once its end line is among the lines read": a run with the id i, which ends at line l
 pub record EndedAt (t : Trace) (l i : ℕ) : Type 0 where
   pub run : ℕ
   pub named : HasId t i run
@@ -33,6 +34,12 @@ pub record Spoken (log : List ℕ) (t : Trace) : Type 0 where
   pub begins : (n i : ℕ) (s : List ℕ) → n < length (linesOf log) → Begins (getD (linesOf log) n []) i s
       → BegunAt t (suc n) i s
   pub ends : (n i : ℕ) → n < length (linesOf log) → Ends (getD (linesOf log) n []) i → EndedAt t (suc n) i
+  -- "15 only while the id's run is open": a line begins a run of an id where none is open after the lines before it
+  pub none-open : (n i : ℕ) (s : List ℕ) → n < length (linesOf log) → Begins (getD (linesOf log) n []) i s
+      → (k : ℕ) → HasId t i k → OpenAt n (runAt t k) → ⊥
+  -- "An end line closes the open run of that id": just the run of the id that is open after the lines before it
+  pub closes : (n i : ℕ) → n < length (linesOf log) → Ends (getD (linesOf log) n []) i
+      → (k : ℕ) → HasId t i k → OpenAt n (runAt t k) ↔ (endLine (runAt t k) ≡ suc n)
   -- "distinct labels from 1 in the order of first appearance": label m first appears at some run, and every run
   -- before that has a lower label or none
   pub distinct : Distinct (t .labels)

@@ -11,7 +11,7 @@ use native.Mathlib.Omega.{arith}
 use lib.ListN.{length}
 use Rattle.lines.specs.Event.{begins}
 use Rattle.lines.specs.Line.{eventOf}
-use Rattle.trace.specs.Trace.{Trace, next, begin, end, beginRun, endRun, endOf, close, applyTo, read, step, apply, start, finish, Accepted}
+use Rattle.trace.specs.Trace.{Trace, next, begin, end, beginRun, endRun, running?, close, applyTo, read, step, apply, start, finish, Accepted}
 use Rattle.trace.proofs.Examples.{run}
 use Rattle.trace.specs.Orderly.{Orderly}
 use Rattle.trace.proofs.Accepted.{accepted-orderly}
@@ -47,19 +47,19 @@ crossing : Trace
 crossing = left (run 1 1 3 1 ∷ run 2 2 4 2 ∷ []) a-and-b 4
 
 over-a-b : After (bytes "B 1 A\nB 2 B\nE 1\nE 2\n") (labelled Formula.overlaps "A" "B") Holds
-unfolding crossing a-and-b eval scoped read step applyTo apply eventOf beginRun withLabel labelOf pad indexOf begin equalLabel? numberOf endRun endOf end close
+unfolding crossing a-and-b eval scoped read step applyTo apply eventOf beginRun withLabel labelOf pad indexOf begin equalLabel? numberOf endRun running? end close
 over-a-b = after _ crossing (labelled Formula.overlaps "A" "B") true (record { bytes = tt; leaves = refl }) refl refl
 
 over-b-a : After (bytes "B 1 A\nB 2 B\nE 1\nE 2\n") (labelled Formula.overlaps "B" "A") Fails
-unfolding crossing a-and-b eval scoped read step applyTo apply eventOf beginRun withLabel labelOf pad indexOf begin equalLabel? numberOf endRun endOf end close
+unfolding crossing a-and-b eval scoped read step applyTo apply eventOf beginRun withLabel labelOf pad indexOf begin equalLabel? numberOf endRun running? end close
 over-b-a = after _ crossing (labelled Formula.overlaps "B" "A") false (record { bytes = tt; leaves = refl }) refl refl
 
 inner : After (bytes "B 1 A\nE 1\nB 2 B\nE 2\n") boundTwice Holds
-unfolding a-and-b eval scoped read step applyTo apply eventOf beginRun withLabel labelOf pad indexOf begin equalLabel? numberOf endRun endOf end close
+unfolding a-and-b eval scoped read step applyTo apply eventOf beginRun withLabel labelOf pad indexOf begin equalLabel? numberOf endRun running? end close
 inner = after _ (left (run 1 1 2 1 ∷ run 2 3 4 2 ∷ []) a-and-b 4) boundTwice true (record { bytes = tt; leaves = refl }) refl refl
 
 itself : After (bytes "B 1 TEST\nE 1\n") someSameAsItself Holds
-unfolding eval scoped read step applyTo apply eventOf beginRun withLabel labelOf pad indexOf begin equalLabel? numberOf endRun endOf end close
+unfolding eval scoped read step applyTo apply eventOf beginRun withLabel labelOf pad indexOf begin equalLabel? numberOf endRun running? end close
 itself = after _ (left (run 1 1 2 1 ∷ []) test-label 2) someSameAsItself true (record { bytes = tt; leaves = refl }) refl refl
 
 pub the-lessons : Lessons

@@ -6,8 +6,10 @@ pub mod Untouched
 pub mod Refusals
 pub mod Verdicts
 pub mod Lessons
+pub mod LinesRead
 pub mod TypedCases
 pub mod SlipCases
+pub mod IdCases
 pub mod Worked
 pub mod Typed
 pub mod Slips

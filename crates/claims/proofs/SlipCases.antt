@@ -9,7 +9,7 @@ use Rattle.lists.specs.Lists.{bytes, pad}
 use Rattle.labels.specs.Label.{labelOf, equalLabel?}
 use Rattle.labels.specs.Table.{indexOf, withLabel, numberOf}
 use Rattle.lines.specs.Line.{eventOf}
-use Rattle.trace.specs.Trace.{Trace, step, applyTo, apply, beginRun, begin, endRun, endOf, end, close, read, Accepted}
+use Rattle.trace.specs.Trace.{Trace, step, applyTo, apply, beginRun, begin, endRun, running?, end, close, read, Accepted}
 use Rattle.trace.specs.declared.Record.{Record}
 use Rattle.trace.specs.Record.{recordOf}
 use Rattle.rules.specs.Formula.{Formula, both, neg, exists, has, pair, before, overlaps, includes, same, scoped, shallow}
@@ -43,7 +43,7 @@ abbrev eveningIncludesTest : Formula
 eveningIncludesTest = both (both (has 0 (bytes "EVENING")) (has 1 (bytes "TEST"))) (pair includes 0 1)
 
 p1-accepted : Accepted p1Log p1Trace
-unfolding read step applyTo apply eventOf beginRun withLabel labelOf pad indexOf begin equalLabel? numberOf endRun endOf end close
+unfolding read step applyTo apply eventOf beginRun withLabel labelOf pad indexOf begin equalLabel? numberOf endRun running? end close
 p1-accepted = record { bytes = tt; leaves = refl }
 
 p1-form : SlipForm (formulaOf p1File p1Rule)
@@ -147,11 +147,11 @@ unfolding WithoutSome formulaAt tree labelStart
 four-form = record { variables = 0 ∷ 0 ∷ 0 ∷ 0 ∷ []; part = has 0 (bytes "TEST"); not-over = refl; one = omega arith; four = omega arith; without = tt }
 
 row-accepted : Accepted rowLog rowTrace
-unfolding read step applyTo apply eventOf beginRun withLabel labelOf pad indexOf begin equalLabel? numberOf endRun endOf end close
+unfolding read step applyTo apply eventOf beginRun withLabel labelOf pad indexOf begin equalLabel? numberOf endRun running? end close
 row-accepted = record { bytes = tt; leaves = refl }
 
 three-accepted : Accepted threeLines threeTrace
-unfolding read step applyTo apply eventOf beginRun withLabel labelOf pad indexOf begin equalLabel? numberOf endRun endOf end close
+unfolding read step applyTo apply eventOf beginRun withLabel labelOf pad indexOf begin equalLabel? numberOf endRun running? end close
 three-accepted = record { bytes = tt; leaves = refl }
 
 row-found : (a : Finding) → FindsFirst noneBefore (recordOf rowTrace) a → a ≡ withSlip (slipOf (0 ∷ 1 ∷ []))

@@ -2,66 +2,50 @@
 use Prim.Native.Nat.{ℕ}
 use mathlib.Core.Path.{_≡_, refl, ap, _∙_}
 use mathlib.Core.List.{List, [], _∷_}
-use native.Mathlib.Omega.{arith}
-use lib.ListN.{getD, set}
-use borrow.Author.Tests.{le-ltb}
+use lib.ListN.{set}
 use Rattle.lists.specs.Lists.{bytes, pad}
 use Rattle.labels.specs.Label.{labelOf, equalLabel?}
 use Rattle.labels.specs.Table.{indexOf, numberOf, withLabel}
 use Rattle.lines.specs.Line.{value, eventOf}
 use Rattle.lines.specs.Log.{linesOf}
-use Rattle.trace.specs.declared.Run.{Run}
-use Rattle.trace.specs.Trace.{noTrace, step, applyTo, apply, beginRun, endRun, begin, end, endOf, close}
+use Rattle.trace.specs.Trace.{noTrace, step, applyTo, apply, beginRun, endRun, begin, end, running?, close}
 use Rattle.pairs.specs.Pairs.{pairSet, pairByte, workOf}
-use Rattle.pairs.proofs.Grid.{getD-gridIn}
 use Rattle.relations.proofs.Examples.{examples}
-use Rattle.rules.specs.declared.Rule.{Rule}
-use Rattle.rules.specs.declared.RuleRead.the-variants as RuleRead
 use Rattle.rules.specs.Labels.{labelStart}
 use Rattle.rules.specs.Table.{tree, formulaAt}
-use Rattle.rules.specs.Rules.{ruleOf}
 use Rattle.rules.specs.Cases.{p1File, p1Rule, p10File, p10Rule}
 use Rattle.rules.proofs.Worked.{p1-taken, p1-formula, p10-taken, p10-formula}
 use Rattle.logic.specs.Model.{eval}
 use Rattle.logic.specs.Verdict.{verdictOf}
 use Rattle.reading.specs.declared.Ending.the-variants as Ending
 use Rattle.reading.specs.Reading.{byAnswer, ended}
-use Rattle.whole_log.specs.Log.{linesFrom, logOf}
+use Rattle.whole_log.specs.Log.{linesFrom}
 use Rattle.whole_log.specs.Repeated.{Result}
 use Rattle.trace.specs.Orderly.{finishedRuns}
 use Rattle.tallies.specs.Tally.{tallyOf, failingFrom, tallyAfter}
-use Rattle.single.proofs.LineCall.{with-taken}
 use Rattle.report.proofs.Examples.{p1-output}
-use Rattle.whole_log.specs.Cases.{Long, pairByte1, p1Log, p1Run, p1Trace}
+use Rattle.whole_log.specs.Cases.{p1Log, p1Run, p1Trace}
 use Rattle.claims.specs.Cases.{P1, P9, P10, Numbers, Cases}
+use Rattle.claims.proofs.LinesRead.{reads, byte-of}
 use Rattle.claims.proofs.TypedCases.{typed-cases}
 use Rattle.claims.proofs.SlipCases.{slip-cases}
-
--- the call reads the lines
-reads : (file : List ℕ) (x : Rule) → ruleOf file ≡ RuleRead.Rule x → (log w out : List ℕ) → Long w out → logOf file log w out ≡ linesFrom file x noTrace (linesOf log) w out
-unfolding logOf
-reads file x e log w out h = simp (le-ltb _ _ (h .work), le-ltb _ _ (h .verdicts)) (with-taken (ruleOf file) x _ _ e)
+use Rattle.claims.proofs.IdCases.{id-cases}
 
 -- ── P1 ──
 p1-lines : (w out : List ℕ) → linesFrom p1File p1Rule noTrace (linesOf p1Log) w out ≡ (ended p1Trace Ending.Read, workOf (p1Trace .runs) w, set (set (set (set out 0 1) 1 1) 2 1) 3 0)
-unfolding linesFrom byAnswer verdictOf eval tree formulaAt labelStart step applyTo apply eventOf beginRun withLabel labelOf pad indexOf begin equalLabel? numberOf endRun endOf end close
+unfolding linesFrom byAnswer verdictOf eval tree formulaAt labelStart step applyTo apply eventOf beginRun withLabel labelOf pad indexOf begin equalLabel? numberOf endRun running? end close
 p1-lines w out = refl
 
 p1-failing : failingFrom p1File p1Rule noTrace (linesOf p1Log) ≡ 1
-unfolding failingFrom byAnswer verdictOf eval tree formulaAt labelStart step applyTo apply eventOf beginRun withLabel labelOf pad indexOf begin equalLabel? numberOf endRun endOf end close
+unfolding failingFrom byAnswer verdictOf eval tree formulaAt labelStart step applyTo apply eventOf beginRun withLabel labelOf pad indexOf begin equalLabel? numberOf endRun running? end close
 p1-failing = refl
 
 p1-tally : tallyAfter p1File p1Rule p1Log p1Trace ≡ record { lines = 4; begun = 2; finished = 2; running = 0; failing = 1 }
 unfolding tallyAfter tallyOf finishedRuns
 p1-tally = ap (tallyOf p1Trace) p1-failing
 
--- the pair byte of runs 0 and 1, by the runs that a log leaves
-byte-of : (log : List ℕ) (rs : List Run) (w out : List ℕ) → Long w out → linesFrom p1File p1Rule noTrace (linesOf log) w out .1 ≡ workOf rs w → pairByte1 log w out ≡ pairByte rs 0 1
-byte-of log rs w out h e =
-    ap (λ (z : Result). getD (z .1) 1 0) (reads p1File p1Rule p1-taken log w out h) ∙ (ap (λ (z : List ℕ). getD z 1 0) e ∙ getD-gridIn (pairByte rs) w 0 1 (omega arith) (omega arith))
-
 p1-case : P1
-unfolding linesFrom byAnswer step applyTo apply eventOf beginRun withLabel labelOf pad indexOf begin equalLabel? numberOf endRun endOf end close pairByte pairSet
+unfolding linesFrom byAnswer step applyTo apply eventOf beginRun withLabel labelOf pad indexOf begin equalLabel? numberOf endRun running? end close pairByte pairSet
 p1-case =
     record {
       size = refl;
@@ -78,14 +62,14 @@ p1-case =
 
 -- ── P9 and P10 ──
 p9-lines : (w out : List ℕ) → linesFrom p1File p1Rule noTrace (linesOf (bytes "B 1 TEST\nE 1\n")) w out .2 ≡ set (set out 0 1) 1 1
-unfolding linesFrom byAnswer verdictOf eval tree formulaAt labelStart step applyTo apply eventOf beginRun withLabel labelOf pad indexOf begin equalLabel? numberOf endRun endOf end close
+unfolding linesFrom byAnswer verdictOf eval tree formulaAt labelStart step applyTo apply eventOf beginRun withLabel labelOf pad indexOf begin equalLabel? numberOf endRun running? end close
 p9-lines w out = refl
 
 p9-case : P9
 p9-case w out h = ap (λ (z : Result). z .2) (reads p1File p1Rule p1-taken (bytes "B 1 TEST\nE 1\n") w out h) ∙ p9-lines w out
 
 p10-lines : (w out : List ℕ) → linesFrom p10File p10Rule noTrace (linesOf (bytes "B 1\nE 1\n")) w out .2 ≡ set (set out 0 0) 1 0
-unfolding linesFrom byAnswer verdictOf eval tree formulaAt labelStart step applyTo apply eventOf beginRun withLabel labelOf pad indexOf begin equalLabel? numberOf endRun endOf end close
+unfolding linesFrom byAnswer verdictOf eval tree formulaAt labelStart step applyTo apply eventOf beginRun withLabel labelOf pad indexOf begin equalLabel? numberOf endRun running? end close
 p10-lines w out = refl
 
 p10-case : P10
@@ -101,4 +85,4 @@ unfolding value
 the-numbers = record { most = refl; in-order = refl; holds = (refl, refl); fails = (refl, refl) }
 
 pub the-cases : Cases
-the-cases = record { p1 = p1-case; p2-to-p8 = examples; p9 = p9-case; p10 = p10-case; numbers = the-numbers; typed = typed-cases; slips = slip-cases }
+the-cases = record { p1 = p1-case; p2-to-p8 = examples; p9 = p9-case; p10 = p10-case; numbers = the-numbers; typed = typed-cases; slips = slip-cases; ids = id-cases }

@@ -22,6 +22,7 @@ use Rattle.tallies.specs.Tally.{tallyAfter}
 use Rattle.report.specs.Text.{reportText}
 use Rattle.claims.specs.TypedCases.{TypedCases}
 use Rattle.claims.specs.SlipCases.{SlipCases}
+use Rattle.claims.specs.IdCases.{IdCases}
 
 pub record P1 : Type 0 where
   pub size : length p1File ≡ 44
@@ -68,3 +69,4 @@ pub record Cases : Type 0 where
   pub numbers : Numbers
   pub typed : TypedCases
   pub slips : SlipCases
+  pub ids : IdCases

@@ -83,7 +83,8 @@ pub record Demand2 : Type 0 where
   pub first-bytes : (file log w out : List ℕ) → logOf file log w out ≡ logOf file (take 8192 log) w out
   pub first-bytes-report : (file log : List ℕ) → reportText (take 600 file) (take 8192 log) ≡ reportText file log
   -- what accepted logs are: in order, "hence 256 lines"; their lines say what they leave; "accepted lines fill at most
-  -- 5,248" bytes; and a log is accepted if none of its lines meets a refusal
+  -- 5,248" bytes; and a log is accepted if none of its lines meets a refusal. Runs are told apart by their numbers. Of
+  -- ids `Orderly` says that at any line at most one run of an id is open, and `Spoken` that an end line closes that one
   pub accepted : (log : List ℕ) (t : Trace) → Accepted log t
       → Orderly t × ((l : ℕ) → 0 < l → l ≤ t .lines → OneRun t l) × Spoken log t × (length log ≤ maxLogBytes)
   pub accepting : Accepting

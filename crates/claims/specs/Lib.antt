@@ -7,4 +7,5 @@ pub mod Demands
 pub mod Lessons
 pub mod TypedCases
 pub mod SlipCases
+pub mod IdCases
 pub mod Cases

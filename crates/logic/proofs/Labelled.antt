@@ -1,23 +1,22 @@
 -- What "has label" says of the lines: the run of a begin line has the line's label, or none if the line has none, and no later line
 -- changes it.
-use Prim.Native.Nat.{ℕ, zero, suc, _+_, _<_}
+use Prim.Native.Nat.{ℕ, suc, _+_, _<_}
 use mathlib.Core.Path.{_≡_, refl, sym, ap, subst, _∙_}
 use mathlib.Core.Logic.{_↔_, _≢_}
-use mathlib.Core.List.{List, [], _∷_}
+use mathlib.Core.List.{List, []}
 use native.Mathlib.Omega.{arith}
-use lib.Dec.{eqb}
-use lib.ListN.{length, getD, List·getD-append}
+use lib.ListN.{length, List·getD-append}
 use lib.Seq.{getD-at}
 use borrow.Author.Tests.{eq-eqb, ne-eqb}
-use Rattle.lists.proofs.Cases.{either-bool}
 use Rattle.labels.specs.Label.{labelOf, text}
 use Rattle.labels.specs.Table.{numberOf, indexOf, labelAt}
 use Rattle.labels.proofs.Same.{text-of}
 use Rattle.labels.proofs.Table.{label-kept, number-names}
 use Rattle.lines.specs.Event.{Event, begins}
 use Rattle.trace.specs.declared.Run.{Run}
-use Rattle.trace.specs.Trace.{Trace, next, noRun, newRun, close, begin, end, apply, Accepted}
+use Rattle.trace.specs.Trace.{Trace, next, noRun, newRun, begin, end, apply, Accepted}
 use Rattle.trace.proofs.Taken.{begin-taken, event-taken}
+use Rattle.trace.proofs.Closed.{close-keeps}
 use Rattle.trace.specs.Orderly.{Orderly}
 use Rattle.trace.proofs.Accepted.{accepted-orderly}
 use Rattle.logic.specs.Satisfies.{HasLabel}
@@ -55,13 +54,6 @@ module _ (t u : Trace) (i : ℕ) (l : List ℕ) (e : apply t (begins i l) ≡ ne
       h .labelled (number-given ∙ s)
 
 -- ── later lines ──
--- an end line changes no label
-close-label : (i n : ℕ) (rs : List Run) (j : ℕ) → getD (close i n rs) j noRun .label .0 ≡ getD rs j noRun .label .0
-unfolding close
-close-label i n [] j = refl
-close-label i n (r ∷ rs) zero = either-bool (eqb (r .id) i) (λ e. simp e refl) (λ e. simp e refl)
-close-label i n (r ∷ rs) (suc j) = either-bool (eqb (r .id) i) (λ e. simp e refl) (λ e. simp e (close-label i n rs j))
-
 record Stays (t u : Trace) (j : ℕ) : Type 0 where
   pub number : numberAt u j ≡ numberAt t j
   pub label : numberAt t j ≢ 0 → labelAt (u .labels) (numberAt t j) ≡ labelAt (t .labels) (numberAt t j)
@@ -74,7 +66,7 @@ stays t u o j h =
       number = ap (λ (r : Run). r .label .0) (List·getD-append (t .runs) _ noRun j h);
       label = λ n. label-kept (t .labels) (labelOf l) (numberAt t j) n (o .label-numbers j h);
     }))
-    (λ i b. subst (λ (w : Trace). Stays t w j) (sym (b .is)) (record { number = close-label i (t .lines + 1) (t .runs) j; label = λ n. refl }))
+    (λ i b. subst (λ (w : Trace). Stays t w j) (sym (b .is)) (record { number = close-keeps (λ r. r .label .0) (λ r n. refl) i (t .lines + 1) (t .runs) j; label = λ n. refl }))
 
 -- a run keeps its label, or stays without one
 pub label-stays : (log : List ℕ) (t u : Trace) → Accepted log t → (v : Event) → apply t v ≡ next u → (j : ℕ) → j < length (t .runs) → (l : List ℕ) → HasLabel t j l ↔ HasLabel u j l

@@ -19,7 +19,7 @@ use Rattle.labels.proofs.Table.{label-kept}
 use Rattle.lines.specs.Event.{begins}
 use Rattle.lines.specs.Line.{eventOf}
 use Rattle.trace.specs.declared.Run.{Run}
-use Rattle.trace.specs.Trace.{Trace, next, noRun, newRun, runAt, beginLine, endLine, begin, end, apply, applyTo, beginRun, endRun, endOf, close, step, read, Accepted}
+use Rattle.trace.specs.Trace.{Trace, next, noRun, newRun, runAt, beginLine, endLine, begin, end, apply, applyTo, beginRun, endRun, running?, close, step, read, Accepted}
 use Rattle.trace.proofs.Examples.{run}
 use Rattle.trace.proofs.Taken.{begin-taken}
 use Rattle.trace.specs.Orderly.{Orderly}
@@ -128,18 +128,18 @@ evening-and-test = labelOf (bytes "EVENING") ∷ labelOf (bytes "TEST") ∷ []
 
 -- "no TEST without a run after it" fails when a TEST ends, and holds again once a later run has finished
 pub test-alone : After (bytes "B 1 TEST\nE 1\n") noTestWithoutRunAfter Fails
-unfolding eval scoped read step applyTo apply eventOf beginRun withLabel labelOf pad indexOf begin equalLabel? numberOf endRun endOf end close
+unfolding eval scoped read step applyTo apply eventOf beginRun withLabel labelOf pad indexOf begin equalLabel? numberOf endRun running? end close
 test-alone = after _ (left (run 1 1 2 1 ∷ []) test-label 2) noTestWithoutRunAfter false (record { bytes = tt; leaves = refl }) refl refl
 
 pub test-and-later : After (bytes "B 1 TEST\nE 1\nB 2\nE 2\n") noTestWithoutRunAfter Holds
-unfolding eval scoped read step applyTo apply eventOf beginRun withLabel labelOf pad indexOf begin equalLabel? numberOf endRun endOf end close
+unfolding eval scoped read step applyTo apply eventOf beginRun withLabel labelOf pad indexOf begin equalLabel? numberOf endRun running? end close
 test-and-later = after _ (left (run 1 1 2 1 ∷ run 2 3 4 0 ∷ []) test-label 4) noTestWithoutRunAfter true (record { bytes = tt; leaves = refl }) refl refl
 
 -- P1's rule holds while the EVENING is open, and fails once it is over
 pub evening-open : After (bytes "B 7 EVENING\nB 9 TEST\nE 9\n") noEveningIncludesTest Holds
-unfolding evening-and-test eval scoped read step applyTo apply eventOf beginRun withLabel labelOf pad indexOf begin equalLabel? numberOf endRun endOf end close
+unfolding evening-and-test eval scoped read step applyTo apply eventOf beginRun withLabel labelOf pad indexOf begin equalLabel? numberOf endRun running? end close
 evening-open = after _ (left (run 7 1 0 1 ∷ run 9 2 3 2 ∷ []) evening-and-test 3) noEveningIncludesTest true (record { bytes = tt; leaves = refl }) refl refl
 
 pub evening-over : After (bytes "B 7 EVENING\nB 9 TEST\nE 9\nE 7\n") noEveningIncludesTest Fails
-unfolding evening-and-test eval scoped read step applyTo apply eventOf beginRun withLabel labelOf pad indexOf begin equalLabel? numberOf endRun endOf end close
+unfolding evening-and-test eval scoped read step applyTo apply eventOf beginRun withLabel labelOf pad indexOf begin equalLabel? numberOf endRun running? end close
 evening-over = after _ (left (run 7 1 4 1 ∷ run 9 2 3 2 ∷ []) evening-and-test 4) noEveningIncludesTest false (record { bytes = tt; leaves = refl }) refl refl

@@ -1,13 +1,14 @@
 -- After an accepted line the refreshed bytes are those of the new runs: only the run of the line changes, so only its bytes do.
-use Prim.Native.Nat.{ℕ, zero, suc, _+_, _-_, _<_, _≤_}
-use mathlib.Core.Path.{_≡_, refl, ap, sym, _∙_}
+use Prim.Native.Nat.{ℕ, _+_, _-_, _<_, _≤_}
+use mathlib.Core.Path.{_≡_, ap, sym, _∙_}
 use mathlib.Core.Bool.{_&&_, cond}
 use mathlib.Core.List.{List, [], _∷_, _++_}
 use native.Mathlib.Omega.{arith}
 use lib.ListN.{length, getD, drop, length-append, List·getD-append, List·getD-eq-default}
-use lib.Dec.{eqb, ltb}
+use lib.Seq.{getD-set-other}
+use lib.Dec.{ltb}
 use borrow.Author.Tests.{lt-ltb, le-ltb, ltb-false}
-use Rattle.lists.proofs.Cases.{either-lt, either-bool}
+use Rattle.lists.proofs.Cases.{either-lt}
 use Rattle.lines.specs.Event.{Event}
 use Rattle.trace.specs.declared.Run.{Run}
 use Rattle.trace.specs.declared.RunTable.{RunTable}
@@ -15,7 +16,7 @@ use Rattle.trace.specs.declared.Record.{Record}
 use Rattle.trace.specs.Trace.{Trace, next, noRun, placeOf, close, begin, end, apply, runOf}
 use Rattle.trace.specs.Steps.{held}
 use Rattle.trace.proofs.Taken.{event-taken}
-use Rattle.trace.proofs.Closed.{RunOf, begun-run, close-long}
+use Rattle.trace.proofs.Closed.{Closing, closing-of, close-long}
 use Rattle.pairs.specs.Grid.{workSize}
 use Rattle.lists.specs.Limits.{maxRuns}
 use Rattle.pairs.specs.Pairs.{pairSet, pairByte, workOf}
@@ -60,22 +61,13 @@ added rs r = record { has = has; run = run }
         (λ h. sym (List·getD-append rs (r ∷ []) noRun k h))
         (λ h. List·getD-eq-default rs noRun h ∙ sym (List·getD-eq-default (rs ++ (r ∷ [])) noRun (omega (arith, size))))
 
--- ── an end line: the run of its id is shut ──
-module _ (i n : ℕ) where
-  getD-close : (rs : List Run) (k : ℕ) → (k ≡ placeOf i rs → ⊥) → getD rs k noRun ≡ getD (close i n rs) k noRun
-  unfolding close placeOf
-  getD-close [] k h = refl
-  getD-close (r ∷ rs) zero h =
-      either-bool (eqb (r .id) i)
-      (λ p. absurd (h (simp p)))
-      (λ p. simp p)
-  getD-close (r ∷ rs) (suc k) h =
-      either-bool (eqb (r .id) i)
-      (λ p. simp p)
-      (λ p. simp p (getD-close rs k (λ e. h (simp p (ap suc e)))))
-
-  shut-one : (rs : List Run) → Beside (placeOf i rs) rs (close i n rs)
-  shut-one rs = record { has = λ k _. ap (λ (m : ℕ). ltb k m) (sym (close-long i n rs)); run = getD-close rs }
+-- ── an end line: the open run of its id is shut ──
+shut-one : (i n : ℕ) (rs : List Run) → Closing i rs → Beside (placeOf i rs) rs (close i n rs)
+shut-one i n rs c =
+    record {
+      has = λ k _. ap (λ (m : ℕ). ltb k m) (sym (close-long i n rs));
+      run = λ k h. rw (c .closes n) (sym (getD-set-other rs (c .at) k _ noRun (λ e. h (e ∙ c .place))));
+    }
 
 -- a line changes no run but its own
 pub line-beside : (t u : Trace) (e : Event) → apply t e ≡ next u → Beside (runOf t e) (t .runs) (u .runs)
@@ -83,7 +75,7 @@ unfolding begin end
 line-beside t u =
     event-taken (λ e. Beside (runOf t e) (t .runs) (u .runs)) t u
     (λ i l b. rw (b .is) (added (t .runs) _))
-    (λ i b. rw (b .is) (shut-one i (t .lines + 1) (t .runs)))
+    (λ i b. rw (b .is) (shut-one i (t .lines + 1) (t .runs) (closing-of i (t .runs) (b .running))))
 
 -- and its own is one of the new runs
 pub line-run : (t u : Trace) (e : Event) → apply t e ≡ next u → runOf t e < length (u .runs)
@@ -92,7 +84,7 @@ line-run t u =
     event-taken (λ e. runOf t e < length (u .runs)) t u
     (λ i l b. rw (b .is) (simp length-append (omega arith)))
     (λ i b.
-    let r : RunOf i (t .runs) = begun-run i (t .runs) (b .old) in
+    let r : Closing i (t .runs) = closing-of i (t .runs) (b .running) in
     rw (b .is) (omega (arith, r .place, r .low, close-long i (t .lines + 1) (t .runs))))
 
 -- ── what a refresh promises ──

@@ -1,15 +1,12 @@
 -- Pair bytes: what the work area says of each two runs.
 use Prim.Native.Nat.{ℕ}
 use mathlib.Core.List.{List}
-use mathlib.Core.Bool.{Bool, _&&_, cond}
-use lib.Dec.{eqb, ltb}
+use mathlib.Core.Bool.{_&&_, cond}
+use lib.Dec.{ltb}
 use lib.ListN.{length, getD}
 use Rattle.trace.specs.declared.Run.{Run}
-use Rattle.trace.specs.Trace.{beginLine, endLine, noRun}
+use Rattle.trace.specs.Trace.{beginLine, endLine, noRun, open?}
 use Rattle.pairs.specs.Grid.{gridIn}
-
-abbrev pub open? : Run → Bool
-open? r = eqb (endLine r) 0
 
 -- "For first and second different, begun in that order, the byte names the set of 000 section 4 that holds the pair":
 -- 1 XY, 2 XXY, 3 XYX, 4 XYY, 5 XXYY (before), 6 XYXY (overlaps), 7 XYYX (includes).

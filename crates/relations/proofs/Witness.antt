@@ -11,7 +11,8 @@ use Rattle.lists.specs.Lists.{has?, bytes?}
 use Rattle.labels.specs.Label.{labelOf}
 use Rattle.labels.specs.Table.{numberOf, withLabel}
 use Rattle.lines.specs.Line.{eventOf}
-use Rattle.trace.specs.Trace.{Trace, Answer, next, refused, runAt, endLine, start, finish, placeOf, endOf, close, begin, end, beginRun, endRun, apply, applyTo, step, read, Accepted}
+use Rattle.trace.specs.declared.Run.{Run}
+use Rattle.trace.specs.Trace.{Trace, Answer, next, refused, runAt, endLine, start, finish, running?, close, begin, end, beginRun, endRun, apply, applyTo, step, read, Accepted}
 use Rattle.relations.specs.Relation.{Relation, before, after, overlaps, overlapped, includes, during, relates?}
 use Rattle.relations.specs.Sets.{Member, member?}
 use Rattle.relations.specs.Runs.{RelatesRuns}
@@ -93,10 +94,14 @@ tests p q r t x y z =
     ∷ not (eqb x y) ∷ not (eqb y z) ∷ not (eqb x z)
     ∷ related? p t x y ∷ related? q t y z ∷ related? r t x z ∷ []
 
+-- the number of the first run that has the id; in these logs it is the only one
+abbrev runBy : ℕ → List Run → ℕ
+runBy i [] = 0
+runBy i (r ∷ rs) = cond (eqb (r .id) i) 0 (suc (runBy i rs))
+
 -- the first run is that of the id 1, the second that of 2, the third that of 3
 abbrev shows? : Relation → Relation → Relation → Answer → Bool
-unfolding placeOf
-shows? p q r (next t) = every? (tests p q r t (placeOf 1 (t .runs)) (placeOf 2 (t .runs)) (placeOf 3 (t .runs)))
+shows? p q r (next t) = every? (tests p q r t (runBy 1 (t .runs)) (runBy 2 (t .runs)) (runBy 3 (t .runs)))
 shows? p q r (refused c) = false
 
 -- ── and what that means ──
@@ -112,11 +117,10 @@ related r t x y h = relates-tells r _ _ _ _ .yes (is-true (related? r t x y) h)
 
 shows : (a b : ℕ) (p q r : Relation) (log : List ℕ) (t : Trace) → Accepted log t → Member p a → Member q b
     → T (shows? p q r (next t)) → ShownByThree a b r
-unfolding placeOf
 shows a b p q r log t e ha hb u =
-    let x = placeOf 1 (t .runs) in
-    let y = placeOf 2 (t .runs) in
-    let z = placeOf 3 (t .runs) in
+    let x = runBy 1 (t .runs) in
+    let y = runBy 2 (t .runs) in
+    let z = runBy 3 (t .runs) in
     let n = length (t .runs) in
     let h = every-one (tests p q r t x y z) u in
     let ends = h .1 .1 .1 .1 in
@@ -146,7 +150,6 @@ shows a b p q r log t e ha hb u =
 
 shown : (a b : ℕ) (p q r : Relation) (log : List ℕ) → Member p a → Member q b → T (bytes? log && shows? p q r (read log))
     → ShownByThree a b r
-unfolding shows?
 shown a b p q r log ha hb t = by-answer (read log) refl (h .1)
   where
     h : T (bytes? log) × T (shows? p q r (read log))
@@ -162,7 +165,7 @@ unfolding codes
 passes? p q r = not (member? r (single p q)) || (bytes? (witness p q r) && shows? p q r (read (witness p q r)))
 
 all-pass : T (all? (λ p. all? (λ q. all? (λ r. passes? p q r))))
-unfolding codes placeOf numberOf withLabel labelOf eventOf endOf close begin end beginRun endRun apply applyTo step read
+unfolding codes numberOf withLabel labelOf eventOf running? close begin end beginRun endRun apply applyTo step read
 all-pass = tt
 
 -- where r is in the single composition of p and q, three runs show it, for any sets that have p and q as members

@@ -53,7 +53,7 @@ taken-counts l t u =
     let c : CountsMore t u 1 0 = subst (λ (v : Trace). CountsMore t v 1 0) (sym (b .is)) (begin-counts t i (labelOf s)) in
     (c .runs, omega (arith, c .finished)))
     (λ i b.
-    let c : CountsMore t u 0 1 = subst (λ (v : Trace). CountsMore t v 0 1) (sym (b .is)) (end-counts t i (b .old) (b .running)) in
+    let c : CountsMore t u 0 1 = subst (λ (v : Trace). CountsMore t v 0 1) (sym (b .is)) (end-counts t i (b .running)) in
     (c .runs, omega (arith, c .finished)))
     l
 

@@ -2,7 +2,8 @@
 
 use crate::deep::{deep_rule, has_open_pair};
 use crate::logs::{
-    begins_first, begins_first_by, interleaved, interleaved_by, kept, section_6_of_figure_1, section_6_of_section_3, Log,
+    begins_first, begins_first_by, few_and_fresh_ids, interleaved, interleaved_by, kept, section_6_of_figure_1,
+    section_6_of_section_3, Log,
 };
 use crate::measure::Baseline;
 use crate::rules::{figure_1, section_3, two_nodes, worst, Case, NodeList};
@@ -187,6 +188,45 @@ fn most_open(log: &Log) -> usize {
         most = most.max(open);
     }
     most
+}
+
+/// The ids of a log, in the order of its lines.
+fn ids_of(log: &Log) -> Vec<String> {
+    let text = String::from_utf8(log.bytes.clone()).unwrap();
+    text.lines().map(|line| line.split(' ').nth(1).unwrap().into()).collect()
+}
+
+#[test]
+fn logs_of_few_ids_have_the_lines_of_those_of_fresh_ids() {
+    for (count, runs) in [(1, 128), (4, 128), (16, 128), (1, 32), (4, 32)] {
+        let [few, fresh] = few_and_fresh_ids(count, runs, &LABELS);
+        assert_eq!((few.runs, fresh.runs), (runs, runs));
+        let different = |log: &Log| ids_of(log).into_iter().collect::<BTreeSet<String>>();
+        assert_eq!((different(&few).len(), different(&fresh).len()), (count, runs));
+        assert!(different(&few).iter().chain(&different(&fresh)).all(|id| id.len() == 3));
+        assert!((count.div_ceil(2)..=count).contains(&most_open(&few)));
+        // The same runs begin and end at the same lines; all but the ids is the same.
+        assert_eq!(Trace::read(&few.bytes).lines, Trace::read(&fresh.bytes).lines);
+        let renamed: Vec<u8> = few
+            .bytes
+            .split_inclusive(|byte| *byte == b'\n')
+            .zip(ids_of(&fresh))
+            .flat_map(|(line, id)| [&line[..2], id.as_bytes(), &line[5..]].concat())
+            .collect();
+        assert!(renamed == fresh.bytes, "{count} ids, {runs} runs");
+    }
+}
+
+/// The verdicts are those of the same lines with fresh ids.
+#[test]
+fn the_three_agree_on_logs_of_few_ids() {
+    for count in [1, 4, 16] {
+        let [few, fresh] = few_and_fresh_ids(count, 40, &LABELS);
+        for rule in [two_nodes(), section_3(1), section_3(2), section_3(3), section_3(4)] {
+            let verdicts = all_agreed(&[PLAIN, PUBLISHED], &rule.file, &few, &rule.name);
+            assert_eq!(verdicts, all_agreed(&[], &rule.file, &fresh, &rule.name), "{}, {count} ids", rule.name);
+        }
+    }
 }
 
 fn break_only_at_the_last_line(rule: fn(usize) -> Case, log: fn(usize, usize) -> Log) {

@@ -3,7 +3,7 @@
 
 use crate::logs::MAX_RUNS;
 use crate::table::{seconds, short, Number, Row};
-use crate::{relating, slips, typed};
+use crate::{reading, relating, slips, typed};
 use Limit::{AtLeast, AtMost, NoneDown, NoneUp};
 
 /// The whole-log call and the single-line call, as multiples of the whole-log call with the two-node rule; and the single-line
@@ -68,10 +68,11 @@ fn unlimited((what, limit, number, form): Asked) -> Asked {
     (what, if limit.is_upper() { NoneUp } else { NoneDown }, number, form)
 }
 
-/// Prints a line for each requirement, over the rows of full logs, of typed rules, of slips and of an earlier library.
-/// Answers whether none failed.
+/// Prints a line for each requirement, over the rows of full logs, of reading, of typed rules, of slips and of relating
+/// two runs. Answers whether none failed.
 pub fn print_checks(
     rows: &[Row],
+    reading: &reading::Rows,
     typed: Option<&typed::Rows>,
     slips: &[slips::Row],
     relating: &[relating::Row],
@@ -83,6 +84,7 @@ pub fn print_checks(
         print_figure_1("section 6 logs", &section_6, |asked| asked),
         print_figure_1("other logs", &others, unlimited),
         print_check("two nodes", &of("two nodes"), TWO_NODES),
+        reading.print_checks(),
         print_check("section 3", &of("section 3"), SINGLE),
         print_all("worst rules", &of("worst"), &WORST),
         typed::print_checks(typed),

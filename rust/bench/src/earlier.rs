@@ -1,11 +1,15 @@
 //! An earlier version of the library, loaded beside the present one, so that both are measured in one run.
 //!
-//! SCENE_LOG_EARLIER in the environment names a shared object made of its archive; `scripts/earlier` makes one.
+//! SCENE_LOG_EARLIER in the environment names a shared object made of its archive; `scripts/earlier` makes one. The
+//! present version is loaded in the same way: where code stands in memory changes its time by up to a tenth, and
+//! linked into this program it stands elsewhere with every change of the program.
 
 use std::ffi::{c_char, c_int, c_void, CStr, CString};
 use std::os::unix::ffi::OsStrExt;
-use std::path::Path;
-use std::{env, fs, mem};
+use std::path::{Path, PathBuf};
+use std::process::Command;
+use std::sync::atomic::{AtomicU32, Ordering};
+use std::{env, fs, mem, process};
 
 pub const VARIABLE: &str = "SCENE_LOG_EARLIER";
 
@@ -19,19 +23,47 @@ extern "C" {
 }
 
 type Relate = unsafe extern "C" fn(*const u8, usize, u32, u32) -> u32;
+type CheckLog =
+    unsafe extern "C" fn(*const u8, usize, *const u8, usize, *mut u8, usize, *mut u8, usize) -> u32;
 
-/// The calls of an earlier library that are measured, as `include/scene_log.h` has them. It stays loaded to the end.
+/// The two libraries.
+pub struct Libraries {
+    pub now: Library,
+    pub earlier: Library,
+}
+
+impl Libraries {
+    /// The present library and the one that the environment names; none where it names none.
+    pub fn named() -> Result<Option<Libraries>, String> {
+        let Some(path) = env::var_os(VARIABLE) else {
+            return Ok(None);
+        };
+        let earlier = Library::load(Path::new(&path)).map_err(|why| format!("{VARIABLE}: {why}"))?;
+        Ok(Some(Libraries { now: Library::present()?, earlier }))
+    }
+}
+
+/// The calls of a library that are measured, as `include/scene_log.h` has them. It stays loaded to the end.
 pub struct Library {
     relate: Relate,
+    check_log: CheckLog,
 }
 
 impl Library {
-    /// The library that the environment names; none where it names none.
-    pub fn named() -> Result<Option<Library>, String> {
-        match env::var_os(VARIABLE) {
-            Some(path) => Library::load(Path::new(&path)).map(Some).map_err(|why| format!("{VARIABLE}: {why}")),
-            None => Ok(None),
+    /// The present library, in a shared object as `scripts/earlier` makes it.
+    pub fn present() -> Result<Library, String> {
+        let made = Path::new(env!("CARGO_MANIFEST_DIR")).join("../../target/staticlib/libscene_log.a");
+        let archive = env::var_os("SCENE_LOG_ARCHIVE").map_or(made, PathBuf::from);
+        let object = temporary_object();
+        let mut gcc = Command::new("gcc");
+        gcc.args(["-shared", "-o"]).arg(&object).arg("-Wl,--whole-archive").arg(archive).arg("-Wl,--no-whole-archive");
+        let output = gcc.output().map_err(|error| format!("gcc cannot be run: {error}"))?;
+        if !output.status.success() {
+            return Err(format!("gcc makes no shared object: {}", String::from_utf8_lossy(&output.stderr)));
         }
+        let library = Library::load(&object);
+        fs::remove_file(&object).map_err(|error| error.to_string())?;
+        library
     }
 
     /// The library in this file.
@@ -45,8 +77,14 @@ impl Library {
             return Err(last_error());
         }
         let relate = call_of(library, c"scene_log_relate")?;
-        // Safe: every version that has this call has it with these arguments.
-        Ok(Library { relate: unsafe { mem::transmute::<*mut c_void, Relate>(relate) } })
+        let check_log = call_of(library, c"scene_log_check_log")?;
+        // Safe: every version that has these calls has them with these arguments.
+        unsafe {
+            Ok(Library {
+                relate: mem::transmute::<*mut c_void, Relate>(relate),
+                check_log: mem::transmute::<*mut c_void, CheckLog>(check_log),
+            })
+        }
     }
 
     /// The answer of relating two runs of a record: the relation's number, or a refusal, from 65,536 on.
@@ -54,6 +92,30 @@ impl Library {
         // Safe: the pointer comes with the length of its slice.
         unsafe { (self.relate)(record.as_ptr(), record.len(), first, second) }
     }
+
+    /// The answer of reading a whole log: the number of its lines, or a refusal, from 65,536 on.
+    pub fn check_log(&self, rule: &[u8], log: &[u8], work: &mut [u8], verdicts: &mut [u8]) -> u32 {
+        // Safe: each pointer comes with the length of its own slice, and `&mut` slices do not overlap others.
+        unsafe {
+            (self.check_log)(
+                rule.as_ptr(),
+                rule.len(),
+                log.as_ptr(),
+                log.len(),
+                work.as_mut_ptr(),
+                work.len(),
+                verdicts.as_mut_ptr(),
+                verdicts.len(),
+            )
+        }
+    }
+}
+
+/// A name of its own for each shared object that is made here.
+fn temporary_object() -> PathBuf {
+    static MADE: AtomicU32 = AtomicU32::new(0);
+    let number = MADE.fetch_add(1, Ordering::Relaxed);
+    env::temp_dir().join(format!("scene_log_{}_{number}.so", process::id()))
 }
 
 /// Where a call of the library stands.
@@ -78,16 +140,17 @@ fn last_error() -> String {
 pub mod tests {
     use super::*;
     use crate::logs::{begins_first, interleaved};
+    use crate::rules::two_nodes;
     use crate::LABELS;
-    use scene_log::{Refusal, Relation};
+    use scene_log::{Refusal, Relation, VERDICT_BYTES, WORK_BYTES};
     use std::io::Write;
-    use std::process::{Command, Stdio};
+    use std::process::Stdio;
 
-    /// The library in a shared object of these files and this text, which stands for the file `-`.
-    pub fn library_of(name: &str, files: &[&str], text: &str) -> Result<Library, String> {
-        let object = env::temp_dir().join(format!("scene_log_{name}_{}.so", std::process::id()));
+    /// The library in a shared object of this text in C.
+    fn library_of(text: &str) -> Result<Library, String> {
+        let object = temporary_object();
         let mut gcc = Command::new("gcc");
-        gcc.args(["-shared", "-fPIC", "-o"]).arg(&object).args(files).stdin(Stdio::piped());
+        gcc.args(["-shared", "-fPIC", "-o"]).arg(&object).args(["-x", "c", "-"]).stdin(Stdio::piped());
         let mut child = gcc.spawn().expect("gcc can be run: this test makes shared objects with it");
         child.stdin.take().unwrap().write_all(text.as_bytes()).unwrap();
         assert!(child.wait().unwrap().success());
@@ -96,13 +159,19 @@ pub mod tests {
         library
     }
 
-    /// As `scripts/earlier` makes it, of the present version.
+    const RELATE: &str = "unsigned scene_log_relate(const char *r, unsigned long a, unsigned x, unsigned y)";
+    const CHECK_LOG: &str = "unsigned scene_log_check_log(const char *r, unsigned long a, const char *l, \
+        unsigned long b, char *w, unsigned long c, char *v, unsigned long d)";
+
+    /// A library whose calls answer these numbers and write nothing.
+    pub fn library_that_answers(relate: u32, check_log: u32) -> Library {
+        let text = format!("{RELATE} {{ return {relate}; }}\n{CHECK_LOG} {{ return {check_log}; }}");
+        library_of(&text).unwrap()
+    }
+
     #[test]
     fn a_shared_object_of_the_archive_answers_as_the_library_does() {
-        let made = concat!(env!("CARGO_MANIFEST_DIR"), "/../../target/staticlib/libscene_log.a");
-        let archive = env::var("SCENE_LOG_ARCHIVE").unwrap_or(made.into());
-        let files = ["-Wl,--whole-archive", &archive, "-Wl,--no-whole-archive"];
-        let library = library_of("present", &files, "").unwrap();
+        let library = Library::present().unwrap();
         for log in [interleaved(9, &LABELS), begins_first(9, &LABELS)] {
             let record = log.record();
             for (one, other) in (0..100).map(|pair| (pair / 10, pair % 10)) {
@@ -110,6 +179,15 @@ pub mod tests {
                 let now = scene_log::relate(&record, one, other).map(Relation::number);
                 assert_eq!(library.relate(&record, one, other), now.map_or_else(refused, u32::from), "{one}, {other}");
             }
+            let rule = two_nodes().file;
+            let mut left = (vec![7; WORK_BYTES], vec![7; VERDICT_BYTES]);
+            let mut left_now = left.clone();
+            assert_eq!(library.check_log(&rule, &log.bytes, &mut left.0, &mut left.1), 18);
+            assert_eq!(scene_log::check_log(&rule, &log.bytes, &mut left_now.0, &mut left_now.1), Ok(18));
+            assert!(left == left_now);
+            // A line without LF as the 19th, and the number of its refusal.
+            let log = [&log.bytes[..], b"B 99"].concat();
+            assert_eq!(library.check_log(&rule, &log, &mut left.0, &mut left.1), (11 << 16) + 19);
         }
     }
 
@@ -119,6 +197,8 @@ pub mod tests {
         assert!(message(Library::load(Path::new("no/such.so"))).starts_with("no/such.so: "));
         let text = concat!(env!("CARGO_MANIFEST_DIR"), "/Cargo.toml");
         assert!(message(Library::load(Path::new(text))).contains("bench/Cargo.toml: "));
-        assert!(message(library_of("without", &["-x", "c", "-"], "int other;")).contains("scene_log_relate"));
+        assert!(message(library_of("int other;")).contains("scene_log_relate"));
+        let relate_alone = format!("{RELATE} {{ return 1; }}");
+        assert!(message(library_of(&relate_alone)).contains("scene_log_check_log"));
     }
 }

@@ -10,6 +10,8 @@
 //!   length, 1,000 to 16,000 lines there, at most 256 here.
 //! - "kept": two phases, mixed at random inside a phase. Every run has a label of the rule or OTHER, and the rule holds at
 //!   every line, so that no evaluator finds anything early.
+//! - "few ids" and "fresh ids": the same lines but for their ids, which all have three digits. Begins and ends are
+//!   mixed at random, and no more runs are open at a time than there are few ids.
 //!
 //! The random source is seeded, so a log is the same in every run.
 
@@ -39,25 +41,54 @@ impl Log {
     }
 }
 
+/// The ids that the runs of a log get.
+enum Ids {
+    /// Each run has its own, from this one on.
+    From(usize),
+    /// All share so many, from this one on. A run has any that no open run has, drawn from a random source apart from
+    /// that of the lines, so that their order is the same with any ids.
+    Few { count: usize, first: usize, random: Random },
+}
+
+impl Ids {
+    /// The id of the next run, with so many begun before it and these ids open.
+    fn next(&mut self, begun: usize, open: &[usize]) -> usize {
+        match self {
+            Ids::From(first) => *first + begun,
+            Ids::Few { count, first, random } => {
+                let closed: Vec<usize> = (*first..*first + *count).filter(|id| !open.contains(id)).collect();
+                *random.pick(&closed)
+            }
+        }
+    }
+}
+
 /// A log that is being written: its text so far, the runs begun, and the ids of the open ones.
 struct Writer {
     random: Random,
+    ids: Ids,
     text: String,
     begun: usize,
     open: Vec<usize>,
 }
 
 impl Writer {
+    /// Ids count from 1.
     fn new(seed: u64) -> Writer {
-        Writer { random: Random::new(seed), text: String::new(), begun: 0, open: Vec::new() }
+        Writer::with_ids(seed, Ids::From(1))
     }
 
-    /// Begins a run with this label, or with none where it is empty. Ids count from 1.
+    fn with_ids(seed: u64, ids: Ids) -> Writer {
+        Writer { random: Random::new(seed), ids, text: String::new(), begun: 0, open: Vec::new() }
+    }
+
+    /// Begins a run with this label, or with none where it is empty.
     fn begin(&mut self, label: &str) {
+        let id = self.ids.next(self.begun, &self.open);
         self.begun += 1;
-        self.open.push(self.begun);
+        self.open.push(id);
         let space = if label.is_empty() { "" } else { " " };
-        writeln!(self.text, "B {}{space}{label}", self.begun).unwrap();
+        writeln!(self.text, "B {id}{space}{label}").unwrap();
     }
 
     /// Ends the open run at this place among the open ones, in the order of their begins.
@@ -115,6 +146,20 @@ pub fn begins_first_by(seed: u64, runs: usize, labels: &[impl AsRef<str>]) -> Lo
         writer.end_any();
     }
     writer.log("begins first")
+}
+
+/// The first of ids that all have three digits.
+const FIRST_ID: usize = 101;
+
+/// A log whose runs share so many ids, and the same lines with ids of their own; these labels in turn.
+pub fn few_and_fresh_ids(count: usize, runs: usize, labels: &[impl AsRef<str>]) -> [Log; 2] {
+    let log = |ids: Ids, kind: &'static str| {
+        let mut writer = Writer::with_ids(6, ids);
+        writer.mixed(runs, labels, count);
+        writer.log(kind)
+    };
+    let few = Ids::Few { count, first: FIRST_ID, random: Random::new(7) };
+    [log(few, "few ids"), log(Ids::From(FIRST_ID), "fresh ids")]
 }
 
 /// Labels that no rule names.

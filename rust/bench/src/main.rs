@@ -15,6 +15,7 @@ mod logs;
 mod measure;
 mod plain;
 mod published;
+mod reading;
 mod relating;
 mod rules;
 mod slips;
@@ -22,7 +23,7 @@ mod table;
 mod trace;
 mod typed;
 
-use earlier::Library;
+use earlier::Libraries;
 use logs::{begins_first, interleaved, kept, section_6_of_figure_1, section_6_of_section_3, Log, MAX_RUNS};
 use measure::{Noise, Series, Time};
 use reference::rule::read_rule;
@@ -62,7 +63,7 @@ fn all_kinds(property: usize) -> [Measured; 4] {
 
 /// The names of the groups, as `--group` takes them, and their headings.
 const GROUPS: [(&str, &str); 7] = [
-    ("reading", "Reading"),
+    (READING, "Reading"),
     ("figure1", "The properties of figure 1"),
     ("section3", "The properties of section 3"),
     ("worst", "The worst rules"),
@@ -70,6 +71,9 @@ const GROUPS: [(&str, &str); 7] = [
     (SLIPS, "Slips"),
     (EARLIER, "Beside an earlier library"),
 ];
+
+/// The group that also has a table of logs whose runs share few ids.
+const READING: &str = "reading";
 
 /// The groups with tables of their own: that which has texts instead of logs, that of the runs that break a rule, and
 /// that which holds this library against an earlier one.
@@ -79,7 +83,7 @@ const EARLIER: &str = "earlier";
 
 fn group(name: &str) -> Vec<Measured> {
     match name {
-        "reading" => both_kinds(two_nodes).into(),
+        READING => both_kinds(two_nodes).into(),
         "figure1" => (1..=4).flat_map(all_kinds).collect(),
         "section3" => (1..=4)
             .flat_map(|property| {
@@ -134,15 +138,15 @@ fn growth(half: &Row, runs: usize, whole: Time) -> Option<f64> {
     (both_taken && runs == MAX_RUNS && half.runs == MAX_RUNS / 2).then(|| whole.seconds / half.whole.seconds)
 }
 
-/// What the command line asks for, and the earlier library where it is to be measured and there is one.
+/// What the command line asks for, and both libraries where an earlier one is to be measured and there is one.
 struct Options {
     sizes: &'static [usize],
     groups: Vec<(&'static str, &'static str)>,
-    earlier: Option<Library>,
+    libraries: Option<Libraries>,
 }
 
 fn options() -> Result<Options, String> {
-    let mut options = Options { sizes: &[16, 32, 64, 128], groups: GROUPS.to_vec(), earlier: None };
+    let mut options = Options { sizes: &[16, 32, 64, 128], groups: GROUPS.to_vec(), libraries: None };
     let mut words = std::env::args().skip(1);
     while let Some(word) = words.next() {
         match word.as_str() {
@@ -158,13 +162,13 @@ fn options() -> Result<Options, String> {
         return Err("the groups are reading, figure1, section3, worst, typed, slips and earlier".into());
     }
     if options.groups.iter().any(|(name, _)| *name == EARLIER) {
-        options.earlier = Library::named()?;
+        options.libraries = Libraries::named()?;
     }
     Ok(options)
 }
 
 fn main() -> ExitCode {
-    let Options { sizes, groups, earlier } = match options() {
+    let Options { sizes, groups, libraries } = match options() {
         Ok(options) => options,
         Err(message) => {
             eprintln!("bench: {message}; usage: bench [--quick] [--group NAME]");
@@ -177,10 +181,12 @@ fn main() -> ExitCode {
     let is_own = |name: &str| [TYPED, SLIPS, EARLIER].contains(&name);
     let (own, groups): (Vec<_>, Vec<_>) = groups.into_iter().partition(|(name, _)| is_own(name));
     let title_of = |wanted: &str| own.iter().find(|(name, _)| *name == wanted).map(|(_, title)| *title);
-    let groups: Vec<_> = groups.iter().map(|(name, title)| (title, group(name))).collect();
-    let count: usize = groups.iter().map(|(_, group)| group.len()).sum();
+    let groups: Vec<_> = groups.iter().map(|(name, title)| (*name, title, group(name))).collect();
+    let count: usize = groups.iter().map(|(_, _, group)| group.len()).sum();
+    let longest = sizes[sizes.len() - 1];
     let mut rows = Vec::new();
-    for (title, group) in &groups {
+    let mut reading = reading::Rows::default();
+    for (name, title, group) in &groups {
         print_heading(title);
         for measured in group {
             if rows.len() == count / 2 * sizes.len() {
@@ -188,11 +194,18 @@ fn main() -> ExitCode {
             }
             rows.extend(rows_of(measured, sizes));
         }
+        if *name == READING {
+            reading.measure_few(longest);
+        }
     }
     let typed = title_of(TYPED).map(typed::measured);
-    let slips = title_of(SLIPS).map(|title| slips::measured(title, sizes[sizes.len() - 1])).unwrap_or_default();
-    let relating = title_of(EARLIER).map(|title| relating::measured(title, earlier.as_ref())).unwrap_or_default();
+    let slips = title_of(SLIPS).map(|title| slips::measured(title, longest)).unwrap_or_default();
+    let relating = title_of(EARLIER).map(|title| relating::measured(title, libraries.as_ref())).unwrap_or_default();
+    if let Some(libraries) = &libraries {
+        reading.measure_earlier(libraries);
+    }
     noise.measure("end", &rule, &log);
     print_noise(&noise);
-    if checks::print_checks(&rows, typed.as_ref(), &slips, &relating) { ExitCode::SUCCESS } else { ExitCode::FAILURE }
+    let passed = checks::print_checks(&rows, &reading, typed.as_ref(), &slips, &relating);
+    if passed { ExitCode::SUCCESS } else { ExitCode::FAILURE }
 }

@@ -1,13 +1,12 @@
 //! Times of relating two runs, now and with an earlier library. Both take turns on the same records and runs.
 
 use crate::checks::{print_numbers, Limit};
-use crate::earlier::{Library, VARIABLE};
+use crate::earlier::{Libraries, Library, VARIABLE};
 use crate::logs::{begins_first, interleaved, kept, section_6_of_figure_1, Log, MAX_RUNS};
 use crate::measure::in_turns;
 use crate::table::{seconds, short, Number};
 use crate::LABELS;
 use generate::random::Random;
-use scene_log::{relate, Relation};
 use std::hint::black_box;
 
 /// The time of a call, as a multiple of that of the earlier library.
@@ -46,45 +45,41 @@ fn mixed_pairs(runs: usize) -> Vec<(u32, u32)> {
 }
 
 /// Both libraries must give the same relation of each pair.
-fn hold_against(earlier: &Library, record: &[u8], pairs: &[(u32, u32)]) {
+fn hold_against(Libraries { now, earlier }: &Libraries, record: &[u8], pairs: &[(u32, u32)]) {
     for (one, other) in pairs {
-        let now = relate(record, *one, *other).map(Relation::number).expect("different finished runs");
-        assert_eq!(earlier.relate(record, *one, *other), now.into(), "the libraries differ on runs {one}, {other}");
+        let relation = now.relate(record, *one, *other);
+        assert!(relation < 1 << 16, "different finished runs are related");
+        assert_eq!(earlier.relate(record, *one, *other), relation, "the libraries differ on runs {one}, {other}");
     }
 }
 
 /// Measures and prints one record.
-fn row(earlier: &Library, log: &Log) -> Row {
+fn row(libraries: &Libraries, log: &Log) -> Row {
     let (record, pairs) = (log.record(), mixed_pairs(log.runs));
-    hold_against(earlier, &record, &pairs);
+    hold_against(libraries, &record, &pairs);
     let timed: Vec<(u32, u32)> = pairs.into_iter().cycle().take(CALLS).collect();
-    let relate_now = || {
+    let relate_all = |library: &Library| {
         for (one, other) in &timed {
-            let _ = black_box(relate(&record, *one, *other));
+            black_box(library.relate(&record, *one, *other));
         }
     };
-    let relate_earlier = || {
-        for (one, other) in &timed {
-            black_box(earlier.relate(&record, *one, *other));
-        }
-    };
-    let (now, then) = in_turns(relate_now, relate_earlier);
+    let (now, then) = in_turns(|| relate_all(&libraries.now), || relate_all(&libraries.earlier));
     let row = Row { log: log.kind, runs: log.runs, now: now / CALLS as f64, earlier: then / CALLS as f64 };
     print_row(&row);
     row
 }
 
 /// Measures and prints all rows; none where there is no earlier library.
-pub fn measured(title: &str, earlier: Option<&Library>) -> Vec<Row> {
+pub fn measured(title: &str, libraries: Option<&Libraries>) -> Vec<Row> {
     println!("\n## {title}\n");
-    let Some(earlier) = earlier else {
+    let Some(libraries) = libraries else {
         println!("Not measured: {VARIABLE} names no earlier library.");
         return Vec::new();
     };
     println!("Relating two runs.\n");
     println!("| Log | Runs | Now | Earlier | now / earlier |");
     println!("|---|--:|--:|--:|--:|");
-    logs().map(|log| row(earlier, &log)).into()
+    logs().map(|log| row(libraries, &log)).into()
 }
 
 fn print_row(row: &Row) {
@@ -101,7 +96,7 @@ pub fn print_checks(rows: &[Row]) -> bool {
 #[cfg(test)]
 mod tests {
     use super::*;
-    use crate::earlier::tests::library_of;
+    use crate::earlier::tests::library_that_answers;
 
     #[test]
     fn each_two_runs_are_paired_once_either_way() {
@@ -119,9 +114,8 @@ mod tests {
     #[test]
     #[should_panic(expected = "the libraries differ")]
     fn a_library_with_other_answers_is_not_measured() {
-        let arguments = "const unsigned char *record, unsigned long length, unsigned first, unsigned second";
-        let text = format!("unsigned scene_log_relate({arguments}) {{ return 1; }}");
-        row(&library_of("before", &["-x", "c", "-"], &text).unwrap(), &interleaved(2, &LABELS));
+        let libraries = Libraries { now: Library::present().unwrap(), earlier: library_that_answers(1, 0) };
+        row(&libraries, &interleaved(2, &LABELS));
     }
 
     #[test]

@@ -266,7 +266,7 @@ fn rule_file(random: &mut Random, rule: &Rule) -> Vec<u8> {
 }
 
 /// Spoils the record, the pair bytes or the tally, or lends a short work area, in about
-/// half of the cases.
+/// two of three cases.
 fn damage_some(random: &mut Random, record: &mut Record, work: &mut Vec<u8>, tally: &mut Tally) {
     // Bytes past the pair bytes, which no call changes.
     let length = random.below(6);
@@ -295,6 +295,8 @@ fn damage_some(random: &mut Random, record: &mut Record, work: &mut Vec<u8>, tal
             let length = *random.pick(&[0, 1, 8128, PAIR_BYTES - 1]);
             work.truncate(length);
         }
+        // Ids have no part in the pair bytes, which stay the record's own.
+        12 => records::share_any_id(random, record),
         _ => {}
     }
 }

@@ -119,23 +119,70 @@ fn sound_log(random: &mut Random, labels: &[Vec<u8>], low: usize, high: usize, k
     Log { bytes: interleave(random, &labels, stay_open), kind }
 }
 
+/// Where the ids of a log come from.
+struct Ids {
+    /// No id is below this one.
+    least: u64,
+    /// The ids that all runs share, so that no more are open at a time; none where ids are taken as they come.
+    few: Vec<u64>,
+    /// Of four ids that are taken as they come, so many are those of finished runs.
+    again: usize,
+}
+
+impl Ids {
+    /// An id of its own for each run in one of four logs, otherwise ids that are used again.
+    fn any(random: &mut Random, least: u64) -> Ids {
+        let mut ids = Ids { least, few: Vec::new(), again: 0 };
+        match random.below(8) {
+            0..=1 => {}
+            2..=4 => ids.again = random.between(1, 3),
+            kind => {
+                let most = if kind == 7 { 16 } else { 4 };
+                for _ in 0..random.between(1, most) {
+                    ids.few.push(ids.fresh(random, &ids.few));
+                }
+            }
+        }
+        ids
+    }
+
+    /// An id that is not among these.
+    fn fresh(&self, random: &mut Random, taken: &[u64]) -> u64 {
+        loop {
+            let id = fresh_id(random, taken);
+            if id >= self.least {
+                return id;
+            }
+        }
+    }
+
+    /// The id of the next run; none where all that it may have are open.
+    fn next(&self, random: &mut Random, begun: &[u64], open: &[u64]) -> Option<u64> {
+        let is_shared = !self.few.is_empty();
+        let known = if is_shared { &self.few } else { begun };
+        let closed: Vec<u64> = known.iter().copied().filter(|id| !open.contains(id)).collect();
+        if !closed.is_empty() && (is_shared || random.chance(self.again, 4)) {
+            return Some(*random.pick(&closed));
+        }
+        (!is_shared).then(|| self.fresh(random, begun))
+    }
+}
+
 /// The lines of one run for each label given, in a random order that is accepted.
 fn interleave(random: &mut Random, labels: &[Option<Vec<u8>>], stay_open: bool) -> Vec<u8> {
-    let long_ids = labels.len() == MAX_RUNS && random.chance(1, 2);
+    let least = if labels.len() == MAX_RUNS && random.chance(1, 2) { 10000 } else { 1 };
+    let ids = Ids::any(random, least);
     let mut bytes = Vec::new();
-    let mut ids: Vec<u64> = Vec::new();
+    let mut begun: Vec<u64> = Vec::new();
     let mut open: Vec<u64> = Vec::new();
     let begin_weight = random.between(1, 5);
     let order = random.below(4);
-    while ids.len() < labels.len() || !open.is_empty() {
-        let begins = ids.len() < labels.len() && (open.is_empty() || random.chance(begin_weight, 6));
-        if begins {
-            let mut id = fresh_id(random, &ids);
-            while long_ids && id < 10000 {
-                id = fresh_id(random, &ids);
-            }
-            bytes.extend(begin_line(id, labels[ids.len()].as_deref()));
-            ids.push(id);
+    while begun.len() < labels.len() || !open.is_empty() {
+        let may_begin = begun.len() < labels.len() && (open.is_empty() || random.chance(begin_weight, 6));
+        let id = if may_begin { ids.next(random, &begun, &open) } else { None };
+        if let Some(id) = id {
+            bytes.extend(begin_line(id, labels[begun.len()].as_deref()));
+            begun.push(id);
             open.push(id);
         } else {
             // The last begun ends first (nesting), the first begun (overlapping), or any.
@@ -145,7 +192,7 @@ fn interleave(random: &mut Random, labels: &[Option<Vec<u8>>], stay_open: bool) 
                 _ => random.below(open.len()),
             };
             bytes.extend(end_line(open.remove(at)));
-            if stay_open && ids.len() == labels.len() && random.chance(1, 2) {
+            if stay_open && begun.len() == labels.len() && random.chance(1, 2) {
                 break;
             }
         }
@@ -170,6 +217,10 @@ fn full_log(random: &mut Random) -> Log {
     match random.below(4) {
         0 => log,
         1 => with_fault_of(random, log, 18),
+        2 => {
+            let number = *random.pick(&[15, 17]);
+            with_fault_of(random, log, number)
+        }
         _ => with_fault(random, log),
     }
 }
@@ -213,7 +264,15 @@ fn with_fault(random: &mut Random, log: Log) -> Log {
 
 fn with_fault_of(random: &mut Random, log: Log, number: u8) -> Log {
     let lines: Vec<&[u8]> = log.bytes.split_inclusive(|byte| *byte == b'\n').collect();
-    let at = if random.chance(3, 4) || number >= 18 { lines.len() } else { random.below(lines.len() + 1) };
+    let begins: Vec<usize> = (0..lines.len()).filter(|line| lines[*line].starts_with(b"B")).collect();
+    let at = match (number, random.below(4)) {
+        (18.., _) => lines.len(),
+        // After a begin line a run is open; at the end there is often none.
+        (15, 0) if !begins.is_empty() => *random.pick(&begins) + 1,
+        (15, 1..=2) if !begins.is_empty() => begins[begins.len() - 1] + 1,
+        (_, 0) => random.below(lines.len() + 1),
+        _ => lines.len(),
+    };
     let before = lines[..at].concat();
     let after = lines[at..].concat();
     let (accepted, _) = accepted_lines(&before);
@@ -241,9 +300,7 @@ fn with_fault_of(random: &mut Random, log: Log, number: u8) -> Log {
 /// A line that is refused with this number after the accepted lines, where they allow
 /// it; otherwise a line that is like it.
 pub fn faulty_line(random: &mut Random, accepted: &[Event], number: u8) -> Vec<u8> {
-    let runs = runs_of(accepted);
-    let begun: Vec<u64> = runs.iter().map(|run| run.id).collect();
-    let finished: Vec<u64> = runs.iter().filter(|run| run.end.is_some()).map(|run| run.id).collect();
+    let UsedIds { begun, open, closed } = UsedIds::of(accepted);
     let fresh = fresh_id(random, &begun);
     let known_label = labels_of(accepted).first().map(|label| label.to_vec());
     match number {
@@ -266,7 +323,7 @@ pub fn faulty_line(random: &mut Random, accepted: &[Event], number: u8) -> Vec<u
             line.into_bytes()
         }
         13 => {
-            // The id may be taken already: the label is judged first.
+            // A run of the id may be open: the label is judged first.
             let id = if random.chance(1, 3) && !begun.is_empty() { *random.pick(&begun) } else { fresh };
             let mut line = format!("B {id} ").into_bytes();
             let label: Vec<u8> = match random.below(6) {
@@ -284,16 +341,40 @@ pub fn faulty_line(random: &mut Random, accepted: &[Event], number: u8) -> Vec<u
         }
         15 if !begun.is_empty() => {
             let label = random.pick(&[None, Some(&b"NEW_LABEL"[..]), Some(b"TEST")]).map(|label| label.to_vec());
-            begin_line(*random.pick(&begun), label.as_deref())
+            begin_line(*random.pick(if open.is_empty() { &begun } else { &open }), label.as_deref())
         }
-        17 if !finished.is_empty() => end_line(*random.pick(&finished)),
+        17 if !closed.is_empty() => end_line(*random.pick(&closed)),
         18 => {
             let label = random.pick(&[None, known_label, Some(b"NEW_LABEL".to_vec())]).clone();
-            begin_line(fresh, label.as_deref())
+            begin_line(fresh_or_closed(random, fresh, &closed), label.as_deref())
         }
-        19 => begin_line(fresh, Some(b"NEW_LABEL")),
+        19 => begin_line(fresh_or_closed(random, fresh, &closed), Some(b"NEW_LABEL")),
         _ => end_line(fresh),
     }
+}
+
+/// The ids of accepted lines, each once: all that have begun, those of open runs, and the others.
+struct UsedIds {
+    begun: Vec<u64>,
+    open: Vec<u64>,
+    closed: Vec<u64>,
+}
+
+impl UsedIds {
+    fn of(accepted: &[Event]) -> UsedIds {
+        let runs = runs_of(accepted);
+        let mut begun: Vec<u64> = runs.iter().map(|run| run.id).collect();
+        begun.sort();
+        begun.dedup();
+        let is_open = |id: &u64| runs.iter().any(|run| run.id == *id && run.end.is_none());
+        let (open, closed) = begun.iter().partition(|id| is_open(id));
+        UsedIds { begun, open, closed }
+    }
+}
+
+/// An id that may begin a run: as often as not one whose runs have finished, where there is one.
+fn fresh_or_closed(random: &mut Random, fresh: u64, closed: &[u64]) -> u64 {
+    if !closed.is_empty() && random.chance(1, 2) { *random.pick(closed) } else { fresh }
 }
 
 /// A label of a right length with one byte that no label has.
@@ -350,21 +431,26 @@ fn line_without_form(random: &mut Random, id: u64) -> Vec<u8> {
     }
 }
 
-/// Lines of all kinds with few ids, so that every state is met.
+/// Lines of all kinds with few ids, so that every state is met. Most fit the lines before them.
 fn noise(random: &mut Random, rule_labels: &[Vec<u8>]) -> Log {
     let choices = label_choices(random, rule_labels);
     let mut bytes = Vec::new();
+    let mut open: Vec<u64> = Vec::new();
     let wrong = random.below(3);
+    let most = *random.pick(&[1, 2, 3, 4, 12]);
     for _ in 0..random.below(30) {
-        let id = random.between(1, 12) as u64;
+        let id = random.between(1, most) as u64;
+        let fits = random.chance(7, 8);
         if random.chance(wrong, 40) {
             let number = *random.pick(&LINE_REFUSALS);
             bytes.extend(faulty_line(random, &[], number));
-        } else if random.chance(1, 2) {
+        } else if open.contains(&id) != fits {
             let label = random.chance(2, 3).then(|| random.pick(&choices).clone());
             bytes.extend(begin_line(id, label.as_deref()));
+            open.push(id);
         } else {
             bytes.extend(end_line(id));
+            open.retain(|other| *other != id);
         }
     }
     Log { bytes, kind: "few ids" }
@@ -372,14 +458,13 @@ fn noise(random: &mut Random, rule_labels: &[Vec<u8>]) -> Log {
 
 /// One line to pass to the single-line call after these accepted lines.
 pub fn next_line(random: &mut Random, accepted: &[Event], rule_labels: &[Vec<u8>]) -> Vec<u8> {
-    let runs = runs_of(accepted);
-    let begun: Vec<u64> = runs.iter().map(|run| run.id).collect();
-    let open: Vec<u64> = runs.iter().filter(|run| run.end.is_none()).map(|run| run.id).collect();
+    let UsedIds { begun, open, closed } = UsedIds::of(accepted);
     match random.below(12) {
         0..=3 => {
             let choices = label_choices(random, rule_labels);
             let label = random.chance(3, 4).then(|| random.pick(&choices).clone());
-            begin_line(fresh_id(random, &begun), label.as_deref())
+            let fresh = fresh_id(random, &begun);
+            begin_line(fresh_or_closed(random, fresh, &closed), label.as_deref())
         }
         4..=7 if !open.is_empty() => end_line(*random.pick(&open)),
         8 => {

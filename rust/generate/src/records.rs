@@ -5,7 +5,74 @@
 
 use crate::random::Random;
 use reference::calls::Tally;
-use reference::record::Record;
+use reference::record::{Record, RunEntry};
+
+/// How two runs that share an id lie to each other. The first is the one that begins first.
+#[derive(Clone, Copy, PartialEq, Eq, PartialOrd, Ord, Debug)]
+pub enum Sharing {
+    /// Both are open: no lines leave such a record.
+    BothOpen,
+    /// The first was open when the second began, and one of them has finished: nor such a one.
+    OpenThen,
+    /// The first had finished when the second began, as after a reset.
+    FinishedBefore,
+}
+
+pub const SHARINGS: [Sharing; 3] = [Sharing::BothOpen, Sharing::OpenThen, Sharing::FinishedBefore];
+
+impl Sharing {
+    fn of(first: &RunEntry, second: &RunEntry) -> Sharing {
+        match (first.end, second.end) {
+            (0, 0) => Sharing::BothOpen,
+            (end, _) if end == 0 || end > second.begin => Sharing::OpenThen,
+            _ => Sharing::FinishedBefore,
+        }
+    }
+}
+
+/// The places of every two runs that lie so to each other.
+fn lying_so(record: &Record, sharing: Sharing) -> Vec<(usize, usize)> {
+    let begun = record.runs.iter().filter(|run| run.begin != 0).count();
+    let pairs = (0..begun).flat_map(|second| (0..second).map(move |first| (first, second)));
+    pairs.filter(|(first, second)| Sharing::of(&record.runs[*first], &record.runs[*second]) == sharing).collect()
+}
+
+/// How the runs lie that share an id.
+pub fn sharings(record: &Record) -> Vec<Sharing> {
+    let share = |sharing: &Sharing| {
+        lying_so(record, *sharing).iter().any(|(first, second)| record.runs[*first].id == record.runs[*second].id)
+    };
+    SHARINGS.into_iter().filter(share).collect()
+}
+
+/// Gives a run the id of an earlier one to which it lies so, and answers whether there are two such. Where the
+/// earlier one had finished, no other run of its id is open together with the run, so that lines leave the record.
+pub fn share_id(random: &mut Random, record: &mut Record, sharing: Sharing) -> bool {
+    let is_in_the_way = |place: usize, other: usize| {
+        let (first, second) = (place.min(other), place.max(other));
+        place != other && Sharing::of(&record.runs[first], &record.runs[second]) != Sharing::FinishedBefore
+    };
+    let is_fit = |(first, second): &(usize, usize)| {
+        let id = record.runs[*first].id;
+        let mut of_id = (0..record.runs.len()).filter(|other| record.runs[*other].id == id);
+        let is_real = sharing != Sharing::FinishedBefore || !of_id.any(|other| is_in_the_way(*second, other));
+        record.runs[*second].id != id && is_real
+    };
+    let pairs: Vec<(usize, usize)> = lying_so(record, sharing).into_iter().filter(is_fit).collect();
+    if pairs.is_empty() {
+        return false;
+    }
+    let (first, second) = *random.pick(&pairs);
+    record.runs[second].id = record.runs[first].id;
+    true
+}
+
+/// Gives a run the id of an earlier one, where two have different ids. All ways to lie that two runs have are chosen.
+pub fn share_any_id(random: &mut Random, record: &mut Record) {
+    let mut ways = SHARINGS;
+    ways.rotate_left(random.below(SHARINGS.len()));
+    let _ = ways.iter().any(|sharing| share_id(random, record, *sharing));
+}
 
 /// Changes one field, or swaps two entries. Some changes leave a real record.
 pub fn damage_record(random: &mut Random, record: &mut Record) {
@@ -29,7 +96,7 @@ pub fn damage_record(random: &mut Random, record: &mut Record) {
         4 => (value + 256) % 65536,
         _ => random.between(0, 65535) as u64,
     };
-    match random.below(18) {
+    match random.below(20) {
         0 => record.runs[run].id = near(random, record.runs[run].id).min(65535),
         1 => record.runs[run].id = record.runs[other_run].id,
         2..=3 => record.runs[run].begin = near(random, record.runs[run].begin).min(65535),
@@ -62,7 +129,8 @@ pub fn damage_record(random: &mut Random, record: &mut Record) {
                 record.places.swap(place, (place + 1) % 128);
             }
         }
-        _ => record.lines = near(random, record.lines).min(65535),
+        17 => record.lines = near(random, record.lines).min(65535),
+        _ => share_any_id(random, record),
     }
 }
 

@@ -1,14 +1,17 @@
 //! The cases reach every refusal, and the reference agrees with itself on them.
 
+use generate::logs::{faulty_line, LINE_REFUSALS};
+use generate::random::Random;
+use generate::records::{share_id, sharings, Sharing, SHARINGS};
 use generate::{case, reference_answers, rule_refusal, Case};
 use reference::calls::{check_line_with_tally, finished_runs, start_record, Tally};
 use reference::formula::Formula;
-use reference::line::Event;
-use reference::record::first_place;
+use reference::line::{read_line, Event};
+use reference::record::{first_place, lines_of, record_of};
 use reference::rule::read_rule;
-use reference::trace::{accepted_lines, labels_of};
-use reference::{PAIR_BYTES, VERDICT_BYTES};
-use std::collections::BTreeMap;
+use reference::trace::{accepted_lines, judge_line, labels_of, runs_of, Run};
+use reference::{MAX_LABELS, MAX_RUNS, PAIR_BYTES, VERDICT_BYTES};
+use std::collections::{BTreeMap, BTreeSet};
 
 const CASES: u64 = 4000;
 
@@ -96,6 +99,177 @@ fn full_logs_many_labels_and_common_first_places_are_reached() {
         assert!(count >= 20);
     }
     assert!(longest_logs > 0 && full_nested >= 5);
+}
+
+/// How many runs have this id.
+fn runs_with(runs: &[Run], id: u64) -> usize {
+    runs.iter().filter(|run| run.id == id).count()
+}
+
+/// Logs in which a finished run's id begins again: many, of all kinds, and most of the full ones.
+#[test]
+fn ids_are_used_again_in_many_logs() {
+    let (mut again, mut full, mut full_again, mut few, mut across) = (0, 0, 0, 0, 0);
+    let mut kinds: BTreeMap<&str, u64> = BTreeMap::new();
+    for seed in 0..CASES {
+        let case = case(seed);
+        let (accepted, _) = accepted_lines(&case.log);
+        let runs = runs_of(&accepted);
+        let ids: BTreeSet<u64> = runs.iter().map(|run| run.id).collect();
+        full += u64::from(runs.len() == MAX_RUNS);
+        if ids.len() == runs.len() {
+            continue;
+        }
+        again += 1;
+        *kinds.entry(case.kind).or_default() += 1;
+        full_again += u64::from(runs.len() == MAX_RUNS);
+        few += u64::from(runs.len() >= 8 && ids.len() <= 4);
+        // A run whose id was used before, and which begins or ends inside a run of another id.
+        let is_inside = |line: u64, other: &Run| other.begin < line && other.end.is_none_or(|end| line < end);
+        across += u64::from(runs.iter().enumerate().any(|(number, run)| {
+            let others = || runs.iter().filter(|other| other.id != run.id);
+            let has_inside = |line: u64| others().any(|other| is_inside(line, other));
+            runs_with(&runs[..number], run.id) > 0 && (has_inside(run.begin) || run.end.is_some_and(has_inside))
+        }));
+    }
+    println!("{again} logs use an id again, {full_again} of {full} full ones; by kinds {kinds:?}");
+    println!("{few} of 8 runs and more have 4 ids at most, {across} have runs that overlap or nest");
+    assert!(again >= CASES * 2 / 5 && few >= CASES / 50 && across >= CASES / 5);
+    assert!(full_again >= full / 2 && full_again >= 50);
+    for kind in ["short", "short with a fault", "middling", "middling with a fault", "labels with one first place"] {
+        assert!(kinds[kind] >= 50, "{kind}");
+    }
+    for kind in ["128 runs", "64 labels", "few ids"] {
+        assert!(kinds[kind] >= 50, "{kind}");
+    }
+}
+
+/// What a line meets, whether its id has begun, whether more than once, and whether the log is full.
+type Met = (Result<(), u8>, bool, bool, bool);
+
+/// What lines meet in a log and in the single-line call, where ids are used again and where not.
+#[test]
+fn every_refusal_is_met_by_ids_that_are_used_again() {
+    let mut met: BTreeMap<Met, u64> = BTreeMap::new();
+    for seed in 0..CASES {
+        let case = case(seed);
+        let (accepted, refusal) = accepted_lines(&case.log);
+        let before: usize = case.log.split_inclusive(|byte| *byte == b'\n').take(accepted.len()).map(<[u8]>::len).sum();
+        let refused = refusal.and_then(|_| case.log[before..].split_inclusive(|byte| *byte == b'\n').next());
+        let of_record = lines_of(&case.record).unwrap_or_default();
+        for (accepted, line) in [(&accepted, refused), (&of_record, Some(&case.line[..]))] {
+            let Some(Ok(event)) = line.map(read_line) else {
+                continue;
+            };
+            let runs = runs_of(accepted);
+            let times = runs_with(&runs, event.id());
+            let answer = judge_line(accepted, line.unwrap()).map(|_| ());
+            *met.entry((answer, times > 0, times > 1, runs.len() == MAX_RUNS)).or_default() += 1;
+        }
+    }
+    println!("answer, begun, begun more than once, full: {met:?}");
+    let count = |wanted: &dyn Fn(&Met) -> bool| -> u64 {
+        met.iter().filter(|(met, _)| wanted(met)).map(|(_, count)| count).sum()
+    };
+    // 16 is for an id that never began, 15 and 17 for one that has begun, 18 and 19 for any.
+    assert_eq!(count(&|(answer, begun, _, _)| *begun && *answer == Err(16)), 0);
+    assert_eq!(count(&|(answer, begun, _, _)| !*begun && matches!(answer, Err(15 | 17))), 0);
+    for number in [15, 17, 18, 19] {
+        assert!(count(&|(answer, begun, _, _)| *begun && *answer == Err(number)) >= 10, "{number}");
+        assert!(count(&|(answer, _, again, _)| *again && *answer == Err(number)) >= 5, "{number}");
+    }
+    for number in [15, 16, 17, 18] {
+        assert!(count(&|(answer, _, _, full)| *full && *answer == Err(number)) >= 5, "{number}");
+    }
+    assert!(count(&|(answer, begun, _, _)| *begun && answer.is_ok()) >= 300);
+}
+
+/// 15 for an id of an open run, 17 for one that has begun and has none open, 16 for one that never began.
+#[test]
+fn a_faulty_line_meets_its_refusal_where_the_lines_before_it_allow_it() {
+    let mut met: BTreeMap<u8, u64> = BTreeMap::new();
+    for seed in 0..CASES {
+        let random = &mut Random::new(seed);
+        let (accepted, _) = accepted_lines(&case(seed).log);
+        let lines = if random.chance(1, 2) { accepted.len() } else { random.below(accepted.len() + 1) };
+        let before = &accepted[..lines];
+        let runs = runs_of(before);
+        let open: BTreeSet<u64> = runs.iter().filter(|run| run.end.is_none()).map(|run| run.id).collect();
+        for number in LINE_REFUSALS {
+            let is_allowed = match number {
+                15 => !open.is_empty(),
+                17 => runs.iter().any(|run| !open.contains(&run.id)),
+                18 => runs.len() == MAX_RUNS,
+                19 => runs.len() < MAX_RUNS && labels_of(before).len() == MAX_LABELS,
+                _ => true,
+            };
+            if is_allowed {
+                assert_eq!(judge_line(before, &faulty_line(random, before, number)), Err(number), "seed {seed}");
+                *met.entry(number).or_default() += 1;
+            }
+        }
+    }
+    println!("{met:?}");
+    assert!(LINE_REFUSALS.iter().all(|number| met[number] >= 20));
+}
+
+/// Two runs that share an id: where one was open when the other began, no lines leave the record, and each way to lie
+/// so is reached. Where it had finished, a changed id leaves a record of other lines.
+#[test]
+fn records_with_shared_ids_are_reached_that_lines_leave_and_that_none_leave() {
+    let (mut both_open, mut open_then, mut changed_ids, mut refused) = (0, 0, 0, 0);
+    for seed in 0..CASES {
+        let case = case(seed);
+        let found = sharings(&case.record);
+        let is_real = lines_of(&case.record).is_some();
+        if found.contains(&Sharing::BothOpen) || found.contains(&Sharing::OpenThen) {
+            assert!(!is_real, "seed {seed}");
+            let answers = reference_answers(&case);
+            assert_eq!(answers.relation, Err(21), "seed {seed}");
+            refused += u64::from(answers.line.verdict == Err(21));
+        }
+        both_open += u64::from(found.contains(&Sharing::BothOpen));
+        open_then += u64::from(found.contains(&Sharing::OpenThen));
+        // The lines of the log leave the same record but for one id, which another run has.
+        let (accepted, _) = accepted_lines(&case.log);
+        let mut unchanged = record_of(&accepted[..accepted.len().min(case.record.lines as usize)]);
+        let changed: Vec<usize> =
+            (0..MAX_RUNS).filter(|run| unchanged.runs[*run].id != case.record.runs[*run].id).collect();
+        if let ([run], true) = (&changed[..], is_real) {
+            let id = case.record.runs[*run].id;
+            let is_shared = unchanged.runs.iter().any(|other| other.id == id);
+            unchanged.runs[*run].id = id;
+            changed_ids += u64::from(is_shared && unchanged == case.record);
+        }
+    }
+    println!("{both_open} both open, {open_then} open then, {refused} refused for that; {changed_ids} of other lines");
+    assert!(both_open >= 20 && open_then >= 20 && refused >= 20 && changed_ids >= 20);
+}
+
+/// On the record of a log whose runs have ids of their own.
+#[test]
+fn an_id_is_shared_as_it_is_asked_for() {
+    let log = b"B 1\nB 2\nE 1\nB 3\nE 3\nB 4\n";
+    let (accepted, _) = accepted_lines(log);
+    assert_eq!(sharings(&record_of(&accepted)), []);
+    let mut found: BTreeMap<Sharing, BTreeSet<Vec<u64>>> = BTreeMap::new();
+    for (seed, sharing) in (0..40).flat_map(|seed| SHARINGS.map(|sharing| (seed, sharing))) {
+        let mut record = record_of(&accepted);
+        assert!(share_id(&mut Random::new(seed), &mut record, sharing));
+        assert_eq!(sharings(&record), [sharing]);
+        assert_eq!(lines_of(&record).is_some(), sharing == Sharing::FinishedBefore);
+        found.entry(sharing).or_default().insert(record.runs[..4].iter().map(|run| run.id).collect());
+    }
+    // Runs 1 and 3 are open. Run 0 ends inside run 1, and run 2 lies inside it.
+    let ids = |all: &[[u64; 4]]| all.iter().map(|ids| ids.to_vec()).collect::<BTreeSet<Vec<u64>>>();
+    assert_eq!(found[&Sharing::BothOpen], ids(&[[1, 2, 3, 2]]));
+    assert_eq!(found[&Sharing::OpenThen], ids(&[[1, 1, 3, 4], [1, 2, 2, 4]]));
+    assert_eq!(found[&Sharing::FinishedBefore], ids(&[[1, 2, 1, 4], [1, 2, 3, 1], [1, 2, 3, 3]]));
+    let (accepted, _) = accepted_lines(b"B 1\nE 1\nB 1\n");
+    let mut record = record_of(&accepted);
+    assert_eq!(sharings(&record), [Sharing::FinishedBefore]);
+    assert!(!SHARINGS.iter().any(|sharing| share_id(&mut Random::new(1), &mut record, *sharing)));
+    assert_eq!(record, record_of(&accepted));
 }
 
 /// The program's output, rebuilt from single-line calls with a tally.

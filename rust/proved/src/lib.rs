@@ -161,17 +161,17 @@ pub fn report(
 }
 
 /// Reads a whole log with a rule file: how many lines it has, or where it is refused and why. A verdict byte is written for
-/// each line that is taken, 1 holds, 0 fails.
+/// each line that is taken, 1 holds, 0 fails. An id whose run has finished may begin a new run.
 ///
 /// ```
 /// use scene_log::{check_log, Refusal, VERDICT_BYTES, WORK_BYTES};
 ///
 /// let rule = b"RUL\x01\x00\x00\x02\x08\x00\x00\x03\x00\x00";
 /// let (mut work, mut verdicts) = ([0; WORK_BYTES], [0; VERDICT_BYTES]);
-/// assert_eq!(check_log(rule, b"B 1 TEST\nE 1\n", &mut work, &mut verdicts)?, 2);
-/// assert_eq!(verdicts[..2], [0, 1]);
+/// assert_eq!(check_log(rule, b"B 1 TEST\nE 1\nB 1\n", &mut work, &mut verdicts)?, 3);
+/// assert_eq!(verdicts[..3], [0, 1, 1]);
 /// let refused = check_log(rule, b"B 1\nB 1\n", &mut work, &mut verdicts).unwrap_err();
-/// assert_eq!((refused.line, refused.refusal), (2, Refusal::BegunBefore));
+/// assert_eq!((refused.line, refused.refusal), (2, Refusal::StillOpen));
 /// # Ok::<(), scene_log::LogRefused>(())
 /// ```
 pub fn check_log(rule: &[u8], log: &[u8], work: &mut [u8], verdicts: &mut [u8]) -> Result<u16, LogRefused> {

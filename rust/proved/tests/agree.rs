@@ -6,6 +6,7 @@ use generate::random::Random;
 use generate::{case, Case};
 use reference::calls::{check_log, LogAnswer};
 use reference::report::report;
+use reference::trace::{accepted_lines, runs_of};
 use scene_log::{LogRefused, Refusal, Relations};
 use std::collections::BTreeMap;
 use std::fs;
@@ -14,7 +15,7 @@ use std::path::{Path, PathBuf};
 use std::process::{Command, Stdio};
 use std::thread;
 
-const CASES: u64 = 20_000;
+const CASES: u64 = 21_000;
 
 /// How many threads share the cases.
 const THREADS: u64 = 2;
@@ -143,9 +144,10 @@ fn printed_refusal(report: &[u8]) -> Option<u8> {
 struct Seen {
     answered: BTreeMap<u8, u64>,
     printed: BTreeMap<u8, u64>,
-    /// How often each kind of log was read, and how many logs were full.
+    /// How often each kind of log was read, how many logs were full, and in how many an id begins again.
     kinds: BTreeMap<&'static str, u64>,
     full: u64,
+    again: u64,
     cases: u64,
 }
 
@@ -161,8 +163,19 @@ impl Seen {
             *self.kinds.entry(kind).or_default() += count;
         }
         self.full += other.full;
+        self.again += other.again;
         self.cases += other.cases;
     }
+}
+
+/// Whether two runs of the lines that are taken have the same id.
+fn uses_an_id_again(log: &[u8]) -> bool {
+    let (accepted, _) = accepted_lines(log);
+    let mut ids: Vec<u64> = runs_of(&accepted).iter().map(|run| run.id).collect();
+    let runs = ids.len();
+    ids.sort();
+    ids.dedup();
+    ids.len() < runs
 }
 
 /// Holds the three against each other on one case. The folder is for the program's rule file.
@@ -185,6 +198,7 @@ fn compare(seed: u64, folder: &Path, seen: &mut Seen) {
     if !matches!(log.refusal, Some((_, 0))) {
         *seen.kinds.entry(case.kind).or_default() += 1;
         seen.full += u64::from(log.lines == 256);
+        seen.again += u64::from(uses_an_id_again(&case.log));
     }
     let refusals = [log.refusal.map(|(number, _)| number), (expected.length.is_none()).then_some(20)];
     for number in refusals.into_iter().flatten() {
@@ -217,6 +231,7 @@ fn library_program_and_reference_agree_on_generated_cases() {
     });
     println!("{} cases, each with a run of the program", seen.cases);
     println!("answered {:?}\nprinted {:?}\nread {:?}, {} of 256 lines", seen.answered, seen.printed, seen.kinds, seen.full);
+    println!("{} begin an id again", seen.again);
     assert_eq!(seen.cases, CASES);
     let with_20: Vec<u8> = PRINTED.into_iter().chain([20]).collect();
     assert_eq!(seen.answered.into_keys().collect::<Vec<u8>>(), with_20);
@@ -224,7 +239,7 @@ fn library_program_and_reference_agree_on_generated_cases() {
     for kind in ["no bytes", "short", "middling", "128 runs", "64 labels", "labels with one first place", "random bytes"] {
         assert!(seen.kinds[kind] >= 100, "{kind}");
     }
-    assert!(seen.full >= 100);
+    assert!(seen.full >= 100 && seen.again >= CASES / 4);
 }
 
 /// A set or a refusal by its number.

@@ -4,8 +4,11 @@
 //! The bytes of a record are put together in `common`, from their form as `include/scene_log.h` has it.
 
 mod common;
+#[path = "common/damage.rs"]
+mod damage;
 
-use common::{bytes_of, first_seed, lent_record, Damage};
+use common::{bytes_of, first_seed};
+use damage::{lent_record, Damage};
 use generate::random::Random;
 use generate::{case, Case};
 use reference::calls::{check_line, check_line_with_tally, check_log, relation_between, start_record};
@@ -17,8 +20,8 @@ use std::collections::{BTreeMap, BTreeSet};
 use std::fs;
 use std::path::Path;
 
-/// Single-line cases, and logs that are read line by line.
-const CASES: u64 = 8_000;
+/// Single-line cases, as many more with a tally, and logs that are read line by line.
+const CASES: u64 = 12_000;
 const LOGS: u64 = 800;
 
 /// What a call answers, and what it leaves in its buffers.
@@ -107,7 +110,7 @@ fn counts_of(tally: Tally) -> scene_log::Tally {
 #[test]
 fn library_and_reference_agree_on_single_lines_with_a_tally() {
     let mut answered: BTreeMap<Result<bool, u8>, u64> = BTreeMap::new();
-    for seed in first_seed()..first_seed() + CASES {
+    for seed in first_seed() + CASES..first_seed() + 2 * CASES {
         let case = case(seed);
         let (bytes, damage) = lent_record(&mut Random::new(!seed), &case.record);
         let mut tally_left = case.tally;
@@ -282,9 +285,9 @@ fn p1_line_by_line() {
     for (first, second) in [(256, 1), (0, 257), (256, 256)] {
         assert_eq!(check.relate(first, second), Err(Refusal::NoFinishedRun), "{first} {second}");
     }
-    // A refused line changes nothing: an id begun before, an id above the range, a line without LF.
+    // A refused line changes nothing: no open run of its id, an id above the range, a line without LF.
     let before = check.clone();
-    for (line, number) in [("B 7\n", 15), ("E 7\n", 17), ("E 8\n", 16), ("B 65536\n", 12), ("B 8", 11), ("B 8 x\n", 13)] {
+    for (line, number) in [("E 7\n", 17), ("E 8\n", 16), ("B 65536\n", 12), ("B 8", 11), ("B 8 x\n", 13)] {
         assert_eq!(numbered(check.line(&rule, line.as_bytes())), Err(number), "{line}");
     }
     assert_eq!(check.line(b"RUX", b"B 8\n"), Err(Refusal::RuleMark));
@@ -294,8 +297,20 @@ fn p1_line_by_line() {
     assert_eq!((check.line(&rule, b"B 8\n"), check.relate(0, 1)), (Err(Refusal::NoRecord), Ok(Relation::Includes)));
     check.work[1] = 7;
     assert!(check == before);
-    // Both runs have id 7, and 21 comes before 22.
+    // Both runs have id 7 and are open at a time, and 21 comes before 22.
     check.record[11] = 7;
     assert_eq!(check.line(&rule, b"B 8\n"), Err(Refusal::NoRecord));
     assert_eq!((check.relate(0, 1), check.relate(300, 1)), (Err(Refusal::NoRecord), Err(Refusal::NoRecord)));
+    check.record[11] = 9;
+    assert!(check == before);
+    // Id 7 begins again, as run 2.
+    assert_eq!(numbered(check.line(&rule, b"B 7\n")), Ok(false));
+    record[..4].copy_from_slice(&[5, 0, 3, 2]);
+    record[18..25].copy_from_slice(&[7, 0, 5, 0, 0, 0, 0]);
+    assert!(*check.record == record);
+    assert_eq!((numbered(check.line(&rule, b"B 7\n")), numbered(check.line(&rule, b"E 9\n"))), (Err(15), Err(17)));
+    assert!(*check.record == record);
+    // Run 0, of the same id, is before it.
+    assert_eq!(numbered(check.line(&rule, b"E 7\n")), Ok(false));
+    assert_eq!((check.relate(0, 2), check.relate(2, 0)), (Ok(Relation::Before), Ok(Relation::After)));
 }

@@ -1,8 +1,11 @@
 //! Slips: the proved library and the reference agree on the runs that break a rule, byte for byte.
 
 mod common;
+#[path = "common/damage.rs"]
+mod damage;
 
-use common::{bytes_of, first_seed, lent_record, Damage};
+use common::{bytes_of, first_seed};
+use damage::{lent_record, Damage};
 use generate::random::Random;
 use generate::slips::{slip_case, SlipCase};
 use reference::calls as by_reference;

@@ -107,7 +107,9 @@ fn read_set(set: u64) -> Result<u8, Refusal> {
     Ok(set as u8)
 }
 
-/// Every accepted log in which the ids 1, 2 and 3 begin and end: 90 of them.
+/// Every accepted log in which each of the ids 1, 2 and 3 has one run, which is finished: 90
+/// of them. Different runs are those with different run numbers; where they share an id, the
+/// log with ids of their own relates them in the same way.
 pub fn logs_of_three_runs() -> Vec<String> {
     let mut finished_logs = Vec::new();
     let mut unfinished_logs = vec![String::new()];
@@ -143,6 +145,9 @@ fn three_runs(log: &str) -> [FinishedRun<'static>; 3] {
 #[cfg(test)]
 mod tests {
     use super::*;
+    use crate::calls::finished_runs;
+    use crate::line::Event;
+    use std::collections::BTreeSet;
 
     #[test]
     fn there_are_90_logs_of_three_runs_and_all_are_accepted() {
@@ -152,6 +157,40 @@ mod tests {
             assert_eq!(accepted_lines(log.as_bytes()).1, None);
             assert_eq!(logs.iter().filter(|other| *other == log).count(), 1);
         }
+    }
+
+    /// What relates x to y, y to z and x to z.
+    fn related([x, y, z]: [&FinishedRun; 3]) -> [u8; 3] {
+        [relation_of(x, y), relation_of(y, z), relation_of(x, z)]
+    }
+
+    /// All logs of six lines over three ids that leave three finished runs, of which two or all may have one id; and
+    /// all orders of their run numbers.
+    #[test]
+    fn logs_that_use_an_id_again_relate_runs_as_the_90_do() {
+        let expected: BTreeSet<[u8; 3]> =
+            logs_of_three_runs().iter().map(|log| related(three_runs(log).each_ref())).collect();
+        let mut found = BTreeSet::new();
+        let (mut logs, mut again) = (0, 0);
+        for number in 0..6_usize.pow(6) {
+            let lines = (0..6).map(|place| number / 6_usize.pow(place) % 6);
+            let log: String = lines.map(|line| format!("{} {}\n", ["B", "E"][line / 3], line % 3 + 1)).collect();
+            let (accepted, refusal) = accepted_lines(log.as_bytes());
+            let finished = finished_runs(&accepted);
+            if refusal.is_some() || finished.len() != 3 {
+                continue;
+            }
+            for order in [[0, 1, 2], [0, 2, 1], [1, 0, 2], [1, 2, 0], [2, 0, 1], [2, 1, 0]] {
+                found.insert(related(order.map(|run: usize| &finished[run])));
+            }
+            logs += 1;
+            let ids: BTreeSet<u64> = accepted.iter().map(Event::id).collect();
+            again += u64::from(ids.len() < 3);
+        }
+        assert_eq!(found, expected);
+        // Three runs of one id come one after another: a log for each id. Of two runs of one id and one of another the
+        // last has any two of the six lines, 15 ways, and the two ids are chosen in 6 ways.
+        assert_eq!((logs, again), (90 + 3 + 15 * 6, 3 + 15 * 6));
     }
 
     #[test]

@@ -230,6 +230,62 @@ fn a_refused_begin_line_leaves_nothing_behind() {
     assert_eq!(record, record_after("B 1 A\nB 2 B\n"));
 }
 
+/// The controller is reset after the third line, while run 1 is open, and counts from 1 again.
+#[test]
+fn an_id_is_used_again_line_by_line() {
+    let mut work = vec![0xA5; PAIR_BYTES + 3];
+    let mut record = start_record(&mut work).unwrap();
+    let mut counts = Tally::default();
+    for (line, answer, expected) in [
+        ("B 1 EVENING\n", Ok(true), [1, 1, 0, 1, 0]),
+        ("B 2 EVENING\n", Ok(true), [2, 2, 0, 2, 0]),
+        ("E 1\n", Ok(true), [3, 2, 1, 1, 0]),
+        ("B 1 TEST\n", Ok(true), [4, 3, 1, 2, 0]),
+        ("B 2\n", Err(15), [4, 3, 1, 2, 0]),
+        ("B 1\n", Err(15), [4, 3, 1, 2, 0]),
+        ("E 1\n", Ok(true), [5, 3, 2, 1, 0]),
+        ("E 1\n", Err(17), [5, 3, 2, 1, 0]),
+        // Run 1 includes run 2; run 0 has the same id as run 2, and overlaps run 1.
+        ("E 2\n", Ok(false), [6, 3, 3, 0, 1]),
+        ("E 2\n", Err(17), [6, 3, 3, 0, 1]),
+        ("E 3\n", Err(16), [6, 3, 3, 0, 1]),
+        ("B 2\n", Ok(false), [7, 4, 3, 1, 2]),
+    ] {
+        let answered = check_line_with_tally(&p1(), &record, &mut work, &mut counts, line.as_bytes());
+        assert_eq!(answered.verdict, answer, "{line}");
+        assert_eq!(counts, tally(expected), "{line}");
+        assert_eq!(work[..PAIR_BYTES], pair_bytes(&answered.record), "{line}");
+        record = answered.record;
+    }
+    assert_eq!(record.runs.map(|run| (run.id, run.begin, run.end))[..4], [(1, 1, 3), (2, 2, 6), (1, 4, 5), (2, 7, 0)]);
+    assert_eq!([1, 2, 3, 130, 131, 259].map(|at| work[at]), [6, 5, 2, 7, 2, 2]);
+    let relations = [(0, 1, Ok(4)), (0, 2, Ok(1)), (2, 0, Ok(2)), (1, 2, Ok(16)), (2, 2, Err(23)), (1, 3, Err(22))];
+    for (first, second, relation) in relations {
+        assert_eq!(relation_between(&record, first, second), relation, "{first} {second}");
+    }
+}
+
+/// Runs 0 and 1 are open at a time; run 2 begins when run 0 has finished, and is open with run 1.
+#[test]
+fn no_lines_leave_a_record_in_which_two_runs_of_one_id_are_open_at_a_time() {
+    let log = "B 1\nB 2\nE 1\nB 3\n";
+    let (sound, work) = (record_after(log), work_after(log));
+    let counts = tally([4, 3, 1, 2, 0]);
+    for (run, id, number) in [
+        (0, 2, Some(21)),
+        (1, 1, Some(21)),
+        (1, 3, Some(21)),
+        (2, 2, Some(21)),
+        (0, 3, None),
+        (2, 1, None),
+    ] {
+        let mut record = sound.clone();
+        record.runs[run].id = id;
+        assert_eq!(refusal(&p1(), &record, &work, counts, "B 9\n"), number, "run {run}, id {id}");
+        assert_eq!(relation_between(&record, 0, 0), Err(number.unwrap_or(23)), "run {run}, id {id}");
+    }
+}
+
 #[test]
 fn runs_and_labels_at_the_edges() {
     let mut log: String = (1..=128).map(|id| format!("B {id} L{}\n", id % 64)).collect();
@@ -243,6 +299,7 @@ fn runs_and_labels_at_the_edges() {
     }
     let (record, work) = (record_after(&log), work_after(&log));
     let counts = tally([256, 128, 128, 0, 0]);
+    assert_eq!(refusal(&p1(), &record, &work, counts, "B 128\n"), Some(18));
     assert_eq!(refusal(&p1(), &record, &work, counts, "E 128\n"), Some(17));
     assert_eq!(refusal(&p1(), &record, &work, counts, "E 129\n"), Some(16));
     let log: String = (1..=64).map(|id| format!("B {id} L{id}\n")).collect();

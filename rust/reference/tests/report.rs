@@ -59,7 +59,8 @@ fn a_log_of_no_bytes_prints_the_tally() {
 #[test]
 fn a_refused_line_ends_the_lines() {
     assert_eq!(output(P1, "E 1\nB 1\n"), "R16 T 0 0 0 0 0");
-    assert_eq!(output(P1, "B 1\nE 1\nB 1\nB 2\n"), "H H R15 T 2 1 1 0 0");
+    assert_eq!(output(P1, "B 1\nB 1\nE 1\n"), "H R15 T 1 1 0 1 0");
+    assert_eq!(output(P1, "B 1\nE 1\nE 1\nB 1\n"), "H H R17 T 2 1 1 0 0");
     for (line, number) in [
         ("B 65535\n", None),
         ("B 65536\n", Some(12)),
@@ -78,6 +79,15 @@ fn a_refused_line_ends_the_lines() {
         };
         assert_eq!(output(P1, line), expected, "{line:?}");
     }
+}
+
+#[test]
+fn an_id_whose_run_has_finished_begins_a_new_run() {
+    assert_eq!(output(P1, "B 1\nE 1\nB 1\nB 2\n"), "H H H H T 4 3 1 2 0");
+    // The second EVENING has the id of the first, and includes the TEST.
+    assert_eq!(output(P1, "B 1 EVENING\nE 1\nB 1 EVENING\nB 2 TEST\nE 2\nE 1\n"), "H H H H H F T 6 3 3 0 1");
+    // The TEST has the id of the EVENING that it comes after.
+    assert_eq!(output(P1, "B 1 EVENING\nE 1\nB 1 TEST\nE 1\n"), "H H H H T 4 2 2 0 0");
 }
 
 #[test]

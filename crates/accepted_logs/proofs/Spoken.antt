@@ -303,8 +303,8 @@ module _ (t : Trace) (o : Orderly t) (n i : ℕ) where
         open-before k,
       )
 
-  begins-none-open : (s : List ℕ) → BegunAt t (suc n) i s → (k : ℕ) → HasId t i k → OpenAt n (runAt t k) → ⊥
-  begins-none-open s b k h p =
+  none-open-before : (s : List ℕ) → BegunAt t (suc n) i s → (k : ℕ) → HasId t i k → OpenAt n (runAt t k) → ⊥
+  none-open-before s b k h p =
       let r : ℕ = b .run in
       either-lt k r
       (λ l.
@@ -323,7 +323,7 @@ accepted-spoken log t a =
       count = s .count;
       begins = λ n i x h b. s .begun n i x h (begins-says _ i x .1 b);
       ends = λ n i h b. s .ended n i h (ends-says _ i .1 b);
-      none-open = λ n i x h b. begins-none-open t o n i x (s .begun n i x h (begins-says _ i x .1 b));
+      begins-none-open = λ n i x h b. none-open-before t o n i x (s .begun n i x h (begins-says _ i x .1 b));
       closes = λ n i h b. closes-open t o n i (s .ended n i h (ends-says _ i .1 b));
       distinct = accepted-sound log t a .distinct;
       appears = s .appears;

@@ -35,7 +35,7 @@ pub record Spoken (log : List ℕ) (t : Trace) : Type 0 where
       → BegunAt t (suc n) i s
   pub ends : (n i : ℕ) → n < length (linesOf log) → Ends (getD (linesOf log) n []) i → EndedAt t (suc n) i
   -- "15 only while the id's run is open": a line begins a run of an id where none is open after the lines before it
-  pub none-open : (n i : ℕ) (s : List ℕ) → n < length (linesOf log) → Begins (getD (linesOf log) n []) i s
+  pub begins-none-open : (n i : ℕ) (s : List ℕ) → n < length (linesOf log) → Begins (getD (linesOf log) n []) i s
       → (k : ℕ) → HasId t i k → OpenAt n (runAt t k) → ⊥
   -- "An end line closes the open run of that id": just the run of the id that is open after the lines before it
   pub closes : (n i : ℕ) → n < length (linesOf log) → Ends (getD (linesOf log) n []) i

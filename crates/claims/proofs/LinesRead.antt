@@ -1,4 +1,5 @@
--- What the whole-log call does on lines that its rule lets it read: it reads them, and leaves the pair bytes of their runs.
+-- What the whole-log call does where its buffers are long enough and its rule is taken: it reads the lines, and leaves the pair bytes of
+-- their runs.
 use Prim.Native.Nat.{ℕ}
 use mathlib.Core.Path.{_≡_, ap, _∙_}
 use mathlib.Core.List.{List}

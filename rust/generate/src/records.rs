@@ -7,12 +7,13 @@ use crate::random::Random;
 use reference::calls::Tally;
 use reference::record::{Record, RunEntry};
 
-/// How two runs that share an id lie to each other. The first is the one that begins first.
+/// How two runs that share an id stand to each other. The first is the one that begins first.
 #[derive(Clone, Copy, PartialEq, Eq, PartialOrd, Ord, Debug)]
 pub enum Sharing {
     /// Both are open: no lines leave such a record.
     BothOpen,
-    /// The first was open when the second began, and one of them has finished: nor such a one.
+    /// The first was open when the second began, and at least one of them has finished: no lines leave such a record
+    /// either.
     OpenThen,
     /// The first had finished when the second began, as after a reset.
     FinishedBefore,
@@ -30,22 +31,22 @@ impl Sharing {
     }
 }
 
-/// The places of every two runs that lie so to each other.
-fn lying_so(record: &Record, sharing: Sharing) -> Vec<(usize, usize)> {
+/// The places of every two runs that stand so to each other.
+fn standing_so(record: &Record, sharing: Sharing) -> Vec<(usize, usize)> {
     let begun = record.runs.iter().filter(|run| run.begin != 0).count();
     let pairs = (0..begun).flat_map(|second| (0..second).map(move |first| (first, second)));
     pairs.filter(|(first, second)| Sharing::of(&record.runs[*first], &record.runs[*second]) == sharing).collect()
 }
 
-/// How the runs lie that share an id.
+/// How the runs stand that share an id.
 pub fn sharings(record: &Record) -> Vec<Sharing> {
     let share = |sharing: &Sharing| {
-        lying_so(record, *sharing).iter().any(|(first, second)| record.runs[*first].id == record.runs[*second].id)
+        standing_so(record, *sharing).iter().any(|(first, second)| record.runs[*first].id == record.runs[*second].id)
     };
     SHARINGS.into_iter().filter(share).collect()
 }
 
-/// Gives a run the id of an earlier one to which it lies so, and answers whether there are two such. Where the
+/// Gives a run the id of an earlier one to which it stands so, and answers whether there are two such. Where the
 /// earlier one had finished, no other run of its id is open together with the run, so that lines leave the record.
 pub fn share_id(random: &mut Random, record: &mut Record, sharing: Sharing) -> bool {
     let is_in_the_way = |place: usize, other: usize| {
@@ -58,7 +59,7 @@ pub fn share_id(random: &mut Random, record: &mut Record, sharing: Sharing) -> b
         let is_real = sharing != Sharing::FinishedBefore || !of_id.any(|other| is_in_the_way(*second, other));
         record.runs[*second].id != id && is_real
     };
-    let pairs: Vec<(usize, usize)> = lying_so(record, sharing).into_iter().filter(is_fit).collect();
+    let pairs: Vec<(usize, usize)> = standing_so(record, sharing).into_iter().filter(is_fit).collect();
     if pairs.is_empty() {
         return false;
     }
@@ -67,7 +68,8 @@ pub fn share_id(random: &mut Random, record: &mut Record, sharing: Sharing) -> b
     true
 }
 
-/// Gives a run the id of an earlier one, where two have different ids. All ways to lie that two runs have are chosen.
+/// Gives a run the id of an earlier one, where two have different ids. How they stand is drawn;
+/// where no two stand so, the next way is tried.
 pub fn share_any_id(random: &mut Random, record: &mut Record) {
     let mut ways = SHARINGS;
     ways.rotate_left(random.below(SHARINGS.len()));

@@ -213,8 +213,8 @@ fn a_faulty_line_meets_its_refusal_where_the_lines_before_it_allow_it() {
     assert!(LINE_REFUSALS.iter().all(|number| met[number] >= 20));
 }
 
-/// Two runs that share an id: where one was open when the other began, no lines leave the record, and each way to lie
-/// so is reached. Where it had finished, a changed id leaves a record of other lines.
+/// Two runs that share an id: where one was open when the other began, no lines leave the record, and both ways to
+/// stand so are reached. Where it had finished, a changed id leaves a record of other lines.
 #[test]
 fn records_with_shared_ids_are_reached_that_lines_leave_and_that_none_leave() {
     let (mut both_open, mut open_then, mut changed_ids, mut refused) = (0, 0, 0, 0);

@@ -1,5 +1,5 @@
-/* Checks a log with the rule "some run is before another", which is typed: at once, and line by line. Then shows the
- * runs that break the rule "no run is before another". */
+/* Checks a log with the rule "some run is before another", which is typed: at once in the square layout of a work area, and
+ * line by line in the half one. Then shows the runs that break the rule "no run is before another". */
 #include <stdio.h>
 #include <string.h>
 #include "scene_log.h"
@@ -7,6 +7,7 @@
 static const char typed[] = "exist A, B . A < B";
 static const char *const lines[] = {"B 1 EVENING\n", "E 1\n", "B 2 TEST\n", "E 2\n", "E 2\n"};
 static uint8_t work[SCENE_LOG_WORK_BYTES], verdicts[SCENE_LOG_VERDICT_BYTES], text[SCENE_LOG_TEXT_BYTES];
+static uint8_t half_work[SCENE_LOG_HALF_WORK_BYTES];
 static uint8_t record[SCENE_LOG_RECORD_BYTES];
 static uint32_t tally[SCENE_LOG_TALLY_COUNTS];
 static uint8_t rule[SCENE_LOG_RULE_BYTES], rule_text[SCENE_LOG_RULE_TEXT_BYTES];
@@ -33,38 +34,42 @@ static int read_rule(void) {
 /* Prints the report of the whole log. */
 static int report_log(void) {
     static const char log[] = "B 1 EVENING\nE 1\nB 2 TEST\nE 2\n";
-    scene_log_answer answer = scene_log_report(rule, rule_length, (const uint8_t *)log, strlen(log), work, sizeof work,
-                                               verdicts, sizeof verdicts, text, sizeof text);
+    scene_log_answer answer = scene_log_report(SCENE_LOG_SQUARE, rule, rule_length, (const uint8_t *)log, strlen(log),
+                                               work, sizeof work, verdicts, sizeof verdicts, text, sizeof text);
     size_t length = SCENE_LOG_VALUE(answer);
     return !SCENE_LOG_REFUSED(answer) && fwrite(text, 1, length, stdout) == length;
 }
 
-/* Takes the lines one by one, as they come, with a tally; the last one is refused. */
+/* Takes the lines one by one, as they come, with a tally; the last one is refused. The work area has the half layout. */
 static int line_by_line(void) {
     size_t i;
-    scene_log_answer answer = scene_log_start(record, sizeof record, work, sizeof work);
+    scene_log_answer answer = scene_log_start(SCENE_LOG_HALF, record, sizeof record, half_work, sizeof half_work);
     if (SCENE_LOG_REFUSED(answer))
         return 0;
     for (i = 0; i < sizeof lines / sizeof *lines; i++) {
         scene_log_verdict verdict =
-            scene_log_check_line_tallied(rule, rule_length, record, sizeof record, tally, SCENE_LOG_TALLY_COUNTS,
-                                         work, sizeof work, (const uint8_t *)lines[i], strlen(lines[i]));
+            scene_log_check_line_tallied(SCENE_LOG_HALF, rule, rule_length, record, sizeof record,
+                                         tally, SCENE_LOG_TALLY_COUNTS, half_work, sizeof half_work,
+                                         (const uint8_t *)lines[i], strlen(lines[i]));
         if (SCENE_LOG_REFUSED(verdict))
             say_refused("the line", SCENE_LOG_REFUSAL(verdict));
         else
             puts(SCENE_LOG_HOLDS(verdict) ? "holds" : "fails");
     }
     printf("%u lines, %u of them fail\n", (unsigned)tally[SCENE_LOG_COUNT_LINES], (unsigned)tally[SCENE_LOG_COUNT_FAILING]);
+    /* The pair of runs 0 and 1 comes first: 1 * (1 - 1) / 2 + 0. */
+    printf("the pair byte of runs 0 and 1 is %u\n", (unsigned)half_work[0]);
     return 1;
 }
 
-/* Reads a log up to a refused line, says how its two runs relate, and goes on with another line. */
+/* Reads a log up to a refused line, says how its two runs relate, and goes on with another line. A work area of one
+ * layout is not taken in a call that names the other. */
 static int record_of_log(void) {
     scene_log_verdict verdict;
     static const char log[] = "B 1\nB 2\nE 1\nE 2\nE 3\n";
-    scene_log_answer answer = scene_log_check_log_record(rule, rule_length, (const uint8_t *)log, strlen(log),
-                                                         record, sizeof record, work, sizeof work,
-                                                         verdicts, sizeof verdicts);
+    scene_log_answer answer = scene_log_check_log_record(SCENE_LOG_SQUARE, rule, rule_length,
+                                                         (const uint8_t *)log, strlen(log), record, sizeof record,
+                                                         work, sizeof work, verdicts, sizeof verdicts);
     if (SCENE_LOG_REFUSED(answer)) {
         printf("%u lines are taken; line %u: ", (unsigned)SCENE_LOG_LINES(answer), (unsigned)SCENE_LOG_REFUSED_LINE(answer));
         say_refused("it", SCENE_LOG_REFUSAL(answer));
@@ -73,7 +78,11 @@ static int record_of_log(void) {
     if (SCENE_LOG_REFUSED(answer))
         return 0;
     puts(SCENE_LOG_VALUE(answer) == SCENE_LOG_OVERLAPS ? "the first overlaps the second" : "they relate in another way");
-    verdict = scene_log_check_line(rule, rule_length, record, sizeof record, work, sizeof work, (const uint8_t *)"B 3\n", 4);
+    verdict = scene_log_check_line(SCENE_LOG_HALF, rule, rule_length, record, sizeof record, work, sizeof work,
+                                   (const uint8_t *)"B 3\n", 4);
+    say_refused("the square area as a half one", SCENE_LOG_REFUSAL(verdict));
+    verdict = scene_log_check_line(SCENE_LOG_SQUARE, rule, rule_length, record, sizeof record, work, sizeof work,
+                                   (const uint8_t *)"B 3\n", 4);
     puts(SCENE_LOG_FAILS(verdict) ? "fails" : "holds or is refused");
     return 1;
 }
@@ -90,8 +99,8 @@ static int show_slip(void) {
     rule_length = SCENE_LOG_VALUE(answer);
     if (SCENE_LOG_REFUSED(answer))
         return 0;
-    answer = scene_log_check_log_record(rule, rule_length, (const uint8_t *)log, strlen(log), record, sizeof record,
-                                        work, sizeof work, verdicts, sizeof verdicts);
+    answer = scene_log_check_log_record(SCENE_LOG_SQUARE, rule, rule_length, (const uint8_t *)log, strlen(log),
+                                        record, sizeof record, work, sizeof work, verdicts, sizeof verdicts);
     if (SCENE_LOG_REFUSED(answer))
         return 0;
     answer = scene_log_first_slip(rule, rule_length, record, sizeof record, slip, sizeof slip);

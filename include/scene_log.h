@@ -14,7 +14,8 @@
  * An answer is read with the macros below and never used as a truth value. It is a struct so that the compiler refuses that. The
  * verdicts of a whole log are its verdict bytes, 1 or 0, of which SCENE_LOG_LINES(answer) are written.
  *
- *     scene_log_verdict answer = scene_log_check_line(rule, rule_length, record, sizeof record, work, sizeof work, line, length);
+ *     scene_log_verdict answer = scene_log_check_line(SCENE_LOG_SQUARE, rule, rule_length, record, sizeof record,
+ *                                                     work, sizeof work, line, length);
  *     if (SCENE_LOG_REFUSED(answer))
  *         printf("refused: %s\n", scene_log_refusal_text(SCENE_LOG_REFUSAL(answer)));
  *     else
@@ -28,8 +29,9 @@
 
 #define SCENE_LOG_VERSION "0.9.0"
 
-/* The length that each lent buffer has at least. */
+/* The length that each lent buffer has at least; a work area in the square layout, and in the half layout. */
 #define SCENE_LOG_WORK_BYTES 16384
+#define SCENE_LOG_HALF_WORK_BYTES 8128
 #define SCENE_LOG_VERDICT_BYTES 256
 #define SCENE_LOG_TEXT_BYTES 2048
 #define SCENE_LOG_RECORD_BYTES 2628
@@ -81,6 +83,26 @@ static inline uint32_t scene_log_lines(scene_log_answer answer) {
     uint32_t line = scene_log_refused_line(answer);
     return line != 0 ? line - 1 : SCENE_LOG_VALUE(answer);
 }
+
+/* The layout of a work area, which every call that is lent one is told first. A pair is two runs x < y, begun in that order
+ * and numbered from 0. Its byte says in which order their lines have come: 1 XY, 2 XXY, 3 XYX, 4 XYY, 5 XXYY, 6 XYXY, 7 XYYX.
+ *
+ * - Square: 16,384 bytes; the byte of x and y stands at 128 * x + y, and every other byte is 0.
+ * - Half: 8,128 bytes, one for each pair of runs below 128; the byte of x and y stands at y * (y - 1) / 2 + x, and it is 0
+ *   where one of the two has not begun.
+ *
+ * Verdicts, refusals, relations and tallies are the same in either layout. A work area shorter than its layout is refused with
+ * 20, before anything else is looked at; one that is longer is taken, and the bytes past the layout's own have no part in the
+ * call and stay as they are. Any number but these two names no layout: it is refused with 20, whatever the length, and nothing
+ * is written.
+ *
+ * An area is handed over in the layout in which it was written. One of the other layout is 21 once two runs have begun (20 if it
+ * is too short). Before that all pair bytes are 0: the half layout then takes a square area, and the square layout takes a half
+ * area with nothing but 0 behind it up to 16,384 bytes. */
+enum scene_log_layout {
+    SCENE_LOG_SQUARE = 0,
+    SCENE_LOG_HALF = 1
+};
 
 /* The refusals. */
 enum scene_log_refusal {
@@ -193,48 +215,52 @@ scene_log_answer scene_log_text_from_rule(const uint8_t *rule, size_t rule_lengt
 
 /* The whole output of the check for a rule file and a log, written to the start of text. Value: its length. It ends in LF and
  * has no byte 0 at its end. Refused with 20 alone, and then nothing is written; what the rule and the lines meet is printed. */
-SCENE_LOG_CALL SCENE_LOG_NOT_NULL(5, 7, 9)
-scene_log_answer scene_log_report(const uint8_t *rule, size_t rule_length, const uint8_t *log, size_t log_length,
-                                  uint8_t *work, size_t work_length, uint8_t *verdicts, size_t verdicts_length,
-                                  uint8_t *text, size_t text_length);
+SCENE_LOG_CALL SCENE_LOG_NOT_NULL(6, 8, 10)
+scene_log_answer scene_log_report(uint32_t layout, const uint8_t *rule, size_t rule_length,
+                                  const uint8_t *log, size_t log_length, uint8_t *work, size_t work_length,
+                                  uint8_t *verdicts, size_t verdicts_length, uint8_t *text, size_t text_length);
 
 /* Reads a whole log with a rule file. For each line that is taken a verdict byte is written, 1 holds, 0 fails; the other
  * verdict bytes stay as they are. Value: how many lines were taken, which is all of them; or, with a refusal, the number of the
  * refused line, and the lines before it were taken. With 20 or 1 to 10 no line was read, the value is 0 and no buffer was
  * written. SCENE_LOG_LINES and SCENE_LOG_REFUSED_LINE read it. */
-SCENE_LOG_CALL SCENE_LOG_NOT_NULL(5, 7)
-scene_log_answer scene_log_check_log(const uint8_t *rule, size_t rule_length, const uint8_t *log, size_t log_length,
-                                     uint8_t *work, size_t work_length, uint8_t *verdicts, size_t verdicts_length);
+SCENE_LOG_CALL SCENE_LOG_NOT_NULL(6, 8)
+scene_log_answer scene_log_check_log(uint32_t layout, const uint8_t *rule, size_t rule_length,
+                                     const uint8_t *log, size_t log_length, uint8_t *work, size_t work_length,
+                                     uint8_t *verdicts, size_t verdicts_length);
 
 /* The same, and the record of the lines that were taken is written to the front of record: with its work area it is ready for
- * the next line. */
-SCENE_LOG_CALL SCENE_LOG_NOT_NULL(5, 7, 9)
-scene_log_answer scene_log_check_log_record(const uint8_t *rule, size_t rule_length, const uint8_t *log, size_t log_length,
+ * the next line, in the same layout. */
+SCENE_LOG_CALL SCENE_LOG_NOT_NULL(6, 8, 10)
+scene_log_answer scene_log_check_log_record(uint32_t layout, const uint8_t *rule, size_t rule_length,
+                                            const uint8_t *log, size_t log_length,
                                             uint8_t *record, size_t record_length, uint8_t *work, size_t work_length,
                                             uint8_t *verdicts, size_t verdicts_length);
 
 /* Starts a record of no lines, for a log that is read line by line: its bytes are written to the front of record, and the
- * first 16,384 bytes of work are cleared. Refused with 20, and then nothing is written. A tally starts at zeros.
+ * first bytes of work are cleared, 16,384 in the square layout and 8,128 in the half layout. Refused with 20, and then nothing
+ * is written. A tally starts at zeros.
  *
  * The record's bytes: the number of lines, low byte first; the numbers of runs and of labels, a byte each; from byte 4 on,
  * for each of 128 runs, 7 bytes: id, begin line and end line (0 while open), low byte first, and the label's number (0 for
  * none); from byte 900 on, for each of 64 labels, its length and its 24 bytes; from byte 2,500 on the 128 places. */
-SCENE_LOG_CALL SCENE_LOG_NOT_NULL(1, 3)
-scene_log_answer scene_log_start(uint8_t *record, size_t record_length, uint8_t *work, size_t work_length);
+SCENE_LOG_CALL SCENE_LOG_NOT_NULL(2, 4)
+scene_log_answer scene_log_start(uint32_t layout, uint8_t *record, size_t record_length, uint8_t *work, size_t work_length);
 
-/* Takes one line, with its LF, on a record and its work area, as scene_log_start or the line before left them: it holds, fails
- * or is refused. A refused call leaves both buffers as they were; after any other they are ready for the next line. 21 says that
- * no lines leave this record and these pair bytes. */
-SCENE_LOG_CALL SCENE_LOG_NOT_NULL(3, 5)
-scene_log_verdict scene_log_check_line(const uint8_t *rule, size_t rule_length, uint8_t *record, size_t record_length,
-                                       uint8_t *work, size_t work_length, const uint8_t *line, size_t line_length);
+/* Takes one line, with its LF, on a record and its work area, as scene_log_start or the line before left them, in the same
+ * layout: it holds, fails or is refused. A refused call leaves both buffers as they were; after any other they are ready for the
+ * next line. 21 says that no lines leave this record and these pair bytes in this layout. */
+SCENE_LOG_CALL SCENE_LOG_NOT_NULL(4, 6)
+scene_log_verdict scene_log_check_line(uint32_t layout, const uint8_t *rule, size_t rule_length,
+                                       uint8_t *record, size_t record_length, uint8_t *work, size_t work_length,
+                                       const uint8_t *line, size_t line_length);
 
 /* The same with a tally of five counts, in the order of enum scene_log_count, which are updated where they stand. 24 says that
  * the first four are not the record's, or that more lines fail than there are. A refused call leaves the tally as it was. */
-SCENE_LOG_CALL SCENE_LOG_NOT_NULL(3, 5, 7)
-scene_log_verdict scene_log_check_line_tallied(const uint8_t *rule, size_t rule_length, uint8_t *record, size_t record_length,
-                                               uint32_t *tally, size_t tally_length, uint8_t *work, size_t work_length,
-                                               const uint8_t *line, size_t line_length);
+SCENE_LOG_CALL SCENE_LOG_NOT_NULL(4, 6, 8)
+scene_log_verdict scene_log_check_line_tallied(uint32_t layout, const uint8_t *rule, size_t rule_length,
+                                               uint8_t *record, size_t record_length, uint32_t *tally, size_t tally_length,
+                                               uint8_t *work, size_t work_length, const uint8_t *line, size_t line_length);
 
 /* Value: the relation of run first to run second of a record, one of enum scene_log_relation. Refused with 20, 21, 22 or 23.
  * Runs are numbered from 0 in the order of their begin lines. */

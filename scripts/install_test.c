@@ -1,5 +1,6 @@
 /* Tries the installed library: NULL with length 0, buffers that are too short, answers of every kind, a rule that is typed and
- * written out, and the stack that a call takes, on a thread that has no more than the header promises. Prints the most stack taken. Exits with 1 at the first fault. */
+ * written out, both layouts of a work area, and the stack that a call takes, on a thread that has no more than the header
+ * promises. Prints the most stack taken. Exits with 1 at the first fault. */
 #define _GNU_SOURCE
 #include <pthread.h>
 #include <stdio.h>
@@ -11,6 +12,9 @@
 #define EXPECT(fact) ((fact) ? (void)0 : (printf("line %d: not so: %s\n", __LINE__, #fact), exit(1)))
 #define BYTES(text) (const uint8_t *)(text), sizeof(text) - 1
 #define OF(buffer) buffer, sizeof buffer
+#define OF_TALLY tally, SCENE_LOG_TALLY_COUNTS
+#define SQUARE SCENE_LOG_SQUARE
+#define HALF SCENE_LOG_HALF
 #define GUARD_BYTES 65536
 #define UNUSED 0xa5
 
@@ -50,33 +54,34 @@ static void try_answers(void) {
     scene_log_answer answer;
     scene_log_verdict verdict;
     uint32_t number;
-    EXPECT(SCENE_LOG_VALUE(scene_log_report(OF(rule), NULL, 0, OF(work), OF(verdicts), OF(text))) == 12);
+    EXPECT(SCENE_LOG_VALUE(scene_log_report(SQUARE, OF(rule), NULL, 0, OF(work), OF(verdicts), OF(text))) == 12);
     EXPECT(memcmp(text, "T 0 0 0 0 0\n", 12) == 0);
-    EXPECT(SCENE_LOG_VALUE(scene_log_report(NULL, 0, NULL, 0, OF(work), OF(verdicts), OF(text))) == 5);
+    EXPECT(SCENE_LOG_VALUE(scene_log_report(SQUARE, NULL, 0, NULL, 0, OF(work), OF(verdicts), OF(text))) == 5);
     EXPECT(memcmp(text, "0 R1\n", 5) == 0);
-    EXPECT(SCENE_LOG_REFUSAL(scene_log_report(OF(rule), NULL, 0, OF(work), OF(verdicts), text, 2047)) == SCENE_LOG_SHORT_BUFFER);
+    answer = scene_log_report(SQUARE, OF(rule), NULL, 0, OF(work), OF(verdicts), text, 2047);
+    EXPECT(SCENE_LOG_REFUSAL(answer) == SCENE_LOG_SHORT_BUFFER);
     EXPECT(scene_log_fnv1a(NULL, 0) == 2166136261u);
-    EXPECT(SCENE_LOG_REFUSAL(scene_log_start(record, 2627, OF(work))) == SCENE_LOG_SHORT_BUFFER);
-    EXPECT(!SCENE_LOG_REFUSED(scene_log_start(OF(record), OF(work))));
-    verdict = scene_log_check_line(OF(rule), OF(record), OF(work), NULL, 0);
+    EXPECT(SCENE_LOG_REFUSAL(scene_log_start(SQUARE, record, 2627, OF(work))) == SCENE_LOG_SHORT_BUFFER);
+    EXPECT(!SCENE_LOG_REFUSED(scene_log_start(SQUARE, OF(record), OF(work))));
+    verdict = scene_log_check_line(SQUARE, OF(rule), OF(record), OF(work), NULL, 0);
     EXPECT(SCENE_LOG_REFUSED(verdict) && SCENE_LOG_REFUSAL(verdict) == SCENE_LOG_LINE_FORM);
     EXPECT(!SCENE_LOG_HOLDS(verdict) && !SCENE_LOG_FAILS(verdict));
-    verdict = scene_log_check_line(NULL, 0, OF(record), OF(work), NULL, 0);
+    verdict = scene_log_check_line(SQUARE, NULL, 0, OF(record), OF(work), NULL, 0);
     EXPECT(SCENE_LOG_REFUSAL(verdict) == SCENE_LOG_RULE_ENDS_EARLY);
-    verdict = scene_log_check_line_tallied(OF(rule), OF(record), tally, 4, OF(work), BYTES("B 1\n"));
+    verdict = scene_log_check_line_tallied(SQUARE, OF(rule), OF(record), tally, 4, OF(work), BYTES("B 1\n"));
     EXPECT(SCENE_LOG_REFUSAL(verdict) == SCENE_LOG_SHORT_BUFFER);
     tally[SCENE_LOG_COUNT_LINES] = 1;
-    verdict = scene_log_check_line_tallied(OF(rule), OF(record), tally, 5, OF(work), BYTES("B 1\n"));
+    verdict = scene_log_check_line_tallied(SQUARE, OF(rule), OF(record), tally, 5, OF(work), BYTES("B 1\n"));
     EXPECT(SCENE_LOG_REFUSAL(verdict) == SCENE_LOG_NO_TALLY && tally[SCENE_LOG_COUNT_LINES] == 1);
     tally[SCENE_LOG_COUNT_LINES] = 0;
-    verdict = scene_log_check_line_tallied(OF(rule), OF(record), tally, 5, OF(work), BYTES("B 1\n"));
+    verdict = scene_log_check_line_tallied(SQUARE, OF(rule), OF(record), tally, 5, OF(work), BYTES("B 1\n"));
     EXPECT(SCENE_LOG_FAILS(verdict) && tally[SCENE_LOG_COUNT_OPEN] == 1 && tally[SCENE_LOG_COUNT_FAILING] == 1);
-    answer = scene_log_check_log(OF(rule), BYTES("B 1\nE 1\nB 1\nB 1\n"), OF(work), OF(verdicts));
+    answer = scene_log_check_log(SQUARE, OF(rule), BYTES("B 1\nE 1\nB 1\nB 1\n"), OF(work), OF(verdicts));
     EXPECT(SCENE_LOG_LINES(answer) == 3 && SCENE_LOG_REFUSED_LINE(answer) == 4);
     EXPECT(SCENE_LOG_REFUSAL(answer) == SCENE_LOG_STILL_OPEN);
-    answer = scene_log_check_log(OF(rule), BYTES("B 1\nE 1\n"), OF(work), OF(verdicts));
+    answer = scene_log_check_log(SQUARE, OF(rule), BYTES("B 1\nE 1\n"), OF(work), OF(verdicts));
     EXPECT(SCENE_LOG_LINES(answer) == 2 && SCENE_LOG_REFUSED_LINE(answer) == 0 && SCENE_LOG_REFUSAL(answer) == 0);
-    answer = scene_log_check_log(NULL, 0, BYTES("B 1\n"), OF(work), OF(verdicts));
+    answer = scene_log_check_log(SQUARE, NULL, 0, BYTES("B 1\n"), OF(work), OF(verdicts));
     EXPECT(SCENE_LOG_LINES(answer) == 0 && SCENE_LOG_REFUSED_LINE(answer) == 0 && SCENE_LOG_REFUSED(answer));
     EXPECT(SCENE_LOG_VALUE(scene_log_compose(SCENE_LOG_OVERLAPS, SCENE_LOG_OVERLAPS)) == (SCENE_LOG_BEFORE | SCENE_LOG_OVERLAPS));
     EXPECT(SCENE_LOG_REFUSAL(scene_log_compose(64, 0)) == SCENE_LOG_NO_SET);
@@ -93,6 +98,107 @@ static void try_answers(void) {
     for (number = 1; number <= 26; number++)
         EXPECT(strcmp(scene_log_refusal_text(number), scene_log_refusal_text(0)) != 0);
     EXPECT(scene_log_refusal_text(27) == scene_log_refusal_text(0) && scene_log_refusal_text(65536) == scene_log_refusal_text(0));
+}
+
+/* ---- the layouts */
+
+static const char three_runs[] = "B 1\nB 2\nE 1\nB 1\nE 2\n";
+
+/* A work area of this length and no byte more, so that valgrind sees it where the bytes behind are read or written. */
+static uint8_t *lend(size_t length) {
+    uint8_t *area = malloc(length);
+    EXPECT(area != NULL);
+    memset(area, UNUSED, length);
+    return area;
+}
+
+/* Whether all bytes are as they were lent. */
+static int unused(const uint8_t *area, size_t length) {
+    size_t i;
+    for (i = 0; i < length; i++)
+        if (area[i] != UNUSED)
+            return 0;
+    return 1;
+}
+
+/* Whether each pair has the same byte in both areas, and every other byte of the square one is 0. */
+static int same_pairs(const uint8_t *square, const uint8_t *half) {
+    unsigned x, y, found = 0;
+    for (y = 0; y < 128; y++)
+        for (x = 0; x < 128; x++)
+            if (square[128 * x + y] != (x < y ? half[found++] : 0))
+                return 0;
+    return found == SCENE_LOG_HALF_WORK_BYTES;
+}
+
+/* Reads the three runs and one line more in an area of this length, which is at least the layout's. */
+static scene_log_verdict read_in(uint32_t layout, uint8_t *area, size_t length) {
+    scene_log_answer answer =
+        scene_log_check_log_record(layout, OF(rule), BYTES(three_runs), OF(record), area, length, OF(verdicts));
+    EXPECT(SCENE_LOG_LINES(answer) == 5 && !SCENE_LOG_REFUSED(answer));
+    EXPECT(!SCENE_LOG_REFUSED(scene_log_report(layout, OF(rule), BYTES(three_runs), area, length, OF(verdicts), OF(text))));
+    return scene_log_check_line(layout, OF(rule), OF(record), area, length, BYTES("E 1\n"));
+}
+
+static void try_lengths(void) {
+    uint8_t *square = lend(SCENE_LOG_WORK_BYTES), *half = lend(SCENE_LOG_HALF_WORK_BYTES), *more = lend(8131);
+    EXPECT(SCENE_LOG_HOLDS(read_in(SQUARE, square, SCENE_LOG_WORK_BYTES)));
+    EXPECT(SCENE_LOG_HOLDS(read_in(HALF, half, SCENE_LOG_HALF_WORK_BYTES)));
+    EXPECT(same_pairs(square, half));
+    /* Runs 0 and 1 overlap, run 0 is before run 2, run 1 overlaps it. */
+    EXPECT(half[0] == 6 && half[1] == 5 && half[2] == 6 && half[3] == 0);
+    EXPECT(SCENE_LOG_HOLDS(read_in(HALF, more, 8131)));
+    EXPECT(memcmp(more, half, SCENE_LOG_HALF_WORK_BYTES) == 0 && unused(more + SCENE_LOG_HALF_WORK_BYTES, 3));
+    /* One byte behind those of the three runs is another, and so is the last. */
+    half[3] = 1;
+    EXPECT(SCENE_LOG_REFUSAL(scene_log_check_line(HALF, OF(rule), OF(record), half, 8128, BYTES("B 3\n"))) == SCENE_LOG_NO_RECORD);
+    half[3] = 0, half[8127] = 1;
+    EXPECT(SCENE_LOG_REFUSAL(scene_log_check_line(HALF, OF(rule), OF(record), half, 8128, BYTES("B 3\n"))) == SCENE_LOG_NO_RECORD);
+    memset(more, UNUSED, 8131);
+    EXPECT(!SCENE_LOG_REFUSED(scene_log_start(HALF, OF(record), more, 8131)) && unused(more + 8128, 3) && more[8127] == 0);
+    free(square), free(half), free(more);
+}
+
+/* An area that is too short, and any number that names no layout: 20, and nothing is written. */
+static void refuse_area(uint32_t layout, size_t length) {
+    uint8_t *area = lend(length);
+    scene_log_verdict verdict;
+    scene_log_answer answer = scene_log_check_log(layout, NULL, 0, BYTES("X"), area, length, OF(verdicts));
+    EXPECT(SCENE_LOG_REFUSAL(answer) == SCENE_LOG_SHORT_BUFFER && SCENE_LOG_REFUSED_LINE(answer) == 0);
+    answer = scene_log_check_log_record(layout, NULL, 0, BYTES("X"), OF(record), area, length, OF(verdicts));
+    EXPECT(SCENE_LOG_REFUSAL(answer) == SCENE_LOG_SHORT_BUFFER && SCENE_LOG_LINES(answer) == 0);
+    answer = scene_log_report(layout, NULL, 0, BYTES("X"), area, length, OF(verdicts), OF(text));
+    EXPECT(SCENE_LOG_REFUSAL(answer) == SCENE_LOG_SHORT_BUFFER);
+    EXPECT(SCENE_LOG_REFUSAL(scene_log_start(layout, OF(record), area, length)) == SCENE_LOG_SHORT_BUFFER);
+    verdict = scene_log_check_line(layout, NULL, 0, OF(record), area, length, BYTES("X"));
+    EXPECT(SCENE_LOG_REFUSAL(verdict) == SCENE_LOG_SHORT_BUFFER);
+    verdict = scene_log_check_line_tallied(layout, NULL, 0, OF(record), OF_TALLY, area, length, BYTES("X"));
+    EXPECT(SCENE_LOG_REFUSAL(verdict) == SCENE_LOG_SHORT_BUFFER);
+    EXPECT(unused(area, length));
+    free(area);
+}
+
+static void try_layouts(void) {
+    static const uint32_t unknown[] = {2, 3, 255, 256, 65536, 0x80000000u, 0xffffffffu};
+    uint8_t before[SCENE_LOG_RECORD_BYTES];
+    size_t i;
+    try_lengths();
+    memcpy(before, record, sizeof before);
+    refuse_area(SQUARE, SCENE_LOG_WORK_BYTES - 1);
+    refuse_area(SQUARE, SCENE_LOG_HALF_WORK_BYTES);
+    refuse_area(HALF, SCENE_LOG_HALF_WORK_BYTES - 1);
+    for (i = 0; i < sizeof unknown / sizeof *unknown; i++) {
+        refuse_area(unknown[i], SCENE_LOG_WORK_BYTES);
+        refuse_area(unknown[i], SCENE_LOG_HALF_WORK_BYTES);
+    }
+    EXPECT(memcmp(before, record, sizeof before) == 0);
+    /* The area of three runs in the other layout. */
+    EXPECT(SCENE_LOG_HOLDS(read_in(SQUARE, OF(work))));
+    EXPECT(SCENE_LOG_REFUSAL(scene_log_check_line(HALF, OF(rule), OF(record), OF(work), BYTES("B 3\n"))) == SCENE_LOG_NO_RECORD);
+    memset(work, 0, sizeof work);
+    EXPECT(SCENE_LOG_HOLDS(read_in(HALF, OF(work))));
+    EXPECT(SCENE_LOG_REFUSAL(scene_log_check_line(SQUARE, OF(rule), OF(record), OF(work), BYTES("B 3\n"))) == SCENE_LOG_NO_RECORD);
+    EXPECT(SCENE_LOG_HOLDS(scene_log_check_line(HALF, OF(rule), OF(record), OF(work), BYTES("B 3\n"))));
 }
 
 /* ---- the stack */
@@ -147,25 +253,28 @@ static void make_logs(unsigned runs) {
 
 static void judge_logs(void) {
     unsigned i;
-    for (i = 0; i < 2; i++) {
-        scene_log_answer answer = scene_log_check_log_record(deep, deep_length, (const uint8_t *)logs[i], strlen(logs[i]) - 5,
+    for (i = 0; i < 4; i++) {
+        const uint8_t *log = (const uint8_t *)logs[i / 2];
+        size_t length = strlen(logs[i / 2]);
+        uint32_t layout = i % 2 == 0 ? SQUARE : HALF;
+        scene_log_answer answer = scene_log_check_log_record(layout, deep, deep_length, log, length - 5,
                                                              OF(record), OF(work), OF(verdicts));
         EXPECT(SCENE_LOG_LINES(answer) > 20);
         answer = scene_log_first_slip(deep, deep_length, OF(record), OF(slip));
         EXPECT(!SCENE_LOG_REFUSED(answer) || SCENE_LOG_REFUSAL(answer) == SCENE_LOG_RULE_NO_SLIPS);
-        answer = scene_log_report(deep, deep_length, (const uint8_t *)logs[i], strlen(logs[i]), OF(work), OF(verdicts), OF(text));
+        answer = scene_log_report(layout, deep, deep_length, log, length, OF(work), OF(verdicts), OF(text));
         EXPECT(!SCENE_LOG_REFUSED(answer));
     }
 }
 
-static void line_by_line(void) {
+static void line_by_line(uint32_t layout) {
     const char *at = logs[1];
-    EXPECT(!SCENE_LOG_REFUSED(scene_log_start(OF(record), OF(work))));
+    EXPECT(!SCENE_LOG_REFUSED(scene_log_start(layout, OF(record), OF(work))));
     memset(tally, 0, sizeof tally);
     while (*at != 0) {
         size_t length = (size_t)(strchr(at, '\n') - at) + 1;
         scene_log_verdict answer =
-            scene_log_check_line_tallied(deep, deep_length, OF(record), tally, 5, OF(work), (const uint8_t *)at, length);
+            scene_log_check_line_tallied(layout, deep, deep_length, OF(record), OF_TALLY, OF(work), (const uint8_t *)at, length);
         EXPECT(!SCENE_LOG_REFUSED(answer));
         at += length;
     }
@@ -188,7 +297,8 @@ static void *judge_deep_rules(void *arguments) {
     make_logs(128);
     make_rule(6, 2, 61, 0, 0);
     judge_logs();
-    line_by_line();
+    line_by_line(SQUARE);
+    line_by_line(HALF);
     return arguments;
 }
 
@@ -217,6 +327,7 @@ static void try_stack(void) {
 int main(int count, char **arguments) {
     (void)arguments;
     try_answers();
+    try_layouts();
     try_typed_rules();
     if (count == 1)
         try_stack();

@@ -1,11 +1,14 @@
 -- Each answer as a number: of a set, of two runs, of a line with its record in bytes and its tally, of a whole log, of a report.
 use Prim.Native.Nat.{ℕ, _+_, _*_, _<_, _≤_}
-use mathlib.Core.Path.{_≡_, refl, ap, sym, _∙_}
+use mathlib.Core.Path.{_≡_, refl, ap, sym, subst, _∙_}
 use mathlib.Core.List.{List, [], _∷_}
+use mathlib.Core.Option.{Option, none, some}
 use native.Mathlib.Omega.{arith}
 use lib.ListN.{length, set}
 use borrow.Author.Tests.{lt-ltb, le-ltb, eq-eqb, ne-eqb}
 use Rattle.trace.specs.declared.Record.{Record}
+use Rattle.pairs.specs.declared.Layout.{Layout}
+use Rattle.pairs.specs.declared.Layout.the-variants.{Square, Half}
 use Rattle.relations.specs.declared.Composed.{Composed}
 use Rattle.relations.specs.declared.Composed.the-variants as Composed
 use Rattle.relations.specs.declared.Related.{Related}
@@ -25,7 +28,7 @@ use Rattle.report.specs.declared.Reported.the-variants as Reported
 use Rattle.record_bytes.specs.declared.PackOutcome.{PackOutcome as Packed}
 use Rattle.record_bytes.specs.Form.{recordSize}
 use Rattle.record_bytes.specs.Calls.{packOf, Packs}
-use Rattle.answer_numbers.specs.Numbers.{setNumber, relationNumber, outcomeNumber, endingNumber, logNumber, reportNumber, ReportFits, writtenNumber, WrittenFits}
+use Rattle.answer_numbers.specs.Numbers.{layoutNamed, ByNamed, ByLayout, setNumber, relationNumber, outcomeNumber, endingNumber, logNumber, reportNumber, ReportFits, writtenNumber, WrittenFits}
 use Rattle.answer_numbers.specs.InBytes.{asByte, recordIn, bytesAfter, lineNumbered, tallyIn, numbersAfter, talliedNumbered, bytesLeft, logKept}
 
 -- ── sets of relations ──
@@ -147,3 +150,22 @@ written-length a n e = sym (ap writtenNumber e)
 
 pub refused-written : (a : Written) (n : ℕ) → a ≡ Written.Refused n → n * 65536 ≡ writtenNumber a
 refused-written a n e = sym (ap writtenNumber e)
+
+-- ── layouts ──
+pub square-named : (n : ℕ) → n ≡ 0 → layoutNamed n ≡ some Square
+square-named n e = simp (eq-eqb _ _ e)
+
+pub half-named : (n : ℕ) → n ≤ 1 → (n ≡ 0 → ⊥) → layoutNamed n ≡ some Half
+half-named n h e = let o : n ≡ 1 = omega arith in simp (ne-eqb _ _ e, eq-eqb _ _ o)
+
+none-named : (n : ℕ) → 1 < n → layoutNamed n ≡ none
+none-named n h = simp (ne-eqb n 0 (λ e. omega arith), ne-eqb n 1 (λ e. omega arith))
+
+-- a call that a layout's number names, and one that no layout's number does
+pub by-layout : (n : ℕ) (says : Layout → Type 0) (refuses : Type 0) (lay : Layout) → layoutNamed n ≡ some lay → says lay → ByLayout n says refuses
+unfolding ByLayout
+by-layout n says refuses lay e s = subst (λ (x : Option Layout). ByNamed x says refuses) (sym e) s
+
+pub no-layout : (n : ℕ) (says : Layout → Type 0) (refuses : Type 0) → 1 < n → refuses → ByLayout n says refuses
+unfolding ByLayout
+no-layout n says refuses h r = subst (λ (x : Option Layout). ByNamed x says refuses) (sym (none-named n h)) r

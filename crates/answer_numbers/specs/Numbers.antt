@@ -3,6 +3,11 @@
 -- a count of lines, a line's number, a length, a set, a relation) is below 65,536.
 use Prim.Native.Nat.{ℕ, _+_, _*_, _/_, _%_, _≤_}
 use mathlib.Core.Path.{_≡_}
+use mathlib.Core.Bool.{cond}
+use mathlib.Core.Option.{Option, none, some}
+use lib.Dec.{eqb}
+use Rattle.pairs.specs.declared.Layout.{Layout}
+use Rattle.pairs.specs.declared.Layout.the-variants.{Square, Half}
 use Rattle.relations.specs.declared.Composed.{Composed}
 use Rattle.relations.specs.declared.Composed.the-variants as Composed
 use Rattle.relations.specs.declared.Related.{Related}
@@ -27,6 +32,20 @@ refusalIn n = n / 65536
 
 abbrev pub valueIn : ℕ → ℕ
 valueIn n = n % 65536
+
+-- ── layouts ──
+-- the layout that a number names: 0 the square one, 1 the half one, and any other number none
+abbrev pub layoutNamed : ℕ → Option Layout
+layoutNamed n = cond (eqb n 0) (some Square) (cond (eqb n 1) (some Half) none)
+
+-- what is said of a layout, or of none
+abbrev pub ByNamed : Option Layout → (Layout → Type 0) → Type 0 → Type 0
+ByNamed (some lay) says refuses = says lay
+ByNamed none says refuses = refuses
+
+-- A call that is lent a work area and told its layout by the number n. For a number that names none it refuses: no buffer is long enough.
+unfoldable pub ByLayout : ℕ → (Layout → Type 0) → Type 0 → Type 0
+ByLayout n says refuses = ByNamed (layoutNamed n) says refuses
 
 -- ── sets of relations ──
 -- "a set, 0 to 63"

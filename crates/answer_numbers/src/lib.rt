@@ -1,13 +1,15 @@
 // Answers as numbers, for programs in other languages: what is an enum in the library is a number here.
 //
 // `keep_record`, `keep_tallied` and `keep_log` also put the record of the lines that are taken into bytes, and the tally into five
-// numbers; `tally_from` reads these, and `as_byte` makes a byte of any number.
+// numbers; `tally_from` reads these, `as_byte` makes a byte of any number, and `layout_of` a layout of its number.
 ghost use mathlib.Core.Path.{_≡_};
+ghost use mathlib.Core.Option.{some};
 ghost use Prim.Native.Nat.{_≤_};
 ghost use lib.ListN.{length};
-ghost use Rattle.answer_numbers.specs.Numbers.{setNumber, relationNumber, logNumber, reportNumber, ReportFits, writtenNumber, WrittenFits};
+ghost use Rattle.answer_numbers.specs.Numbers.{layoutNamed, setNumber, relationNumber, logNumber, reportNumber, ReportFits, writtenNumber, WrittenFits};
 ghost use Rattle.answer_numbers.specs.InBytes.{asByte, lineNumbered, tallyFrom, tallyIn, talliedNumbered, logKept};
 use output::Written;
+use pairs::Layout;
 use reading::Ending;
 use reading::LogRead;
 use relations::Composed;
@@ -28,6 +30,14 @@ const FAILS: u32 = 0;
 
 // What the number of a refusal is multiplied by.
 pub const REFUSAL_STEP: u32 = 65536;
+
+// The layout that a number names.
+pub fn layout_of(n: u32) -> Layout
+    requires { ⌜ n ≤ 1 ⌝ }
+    ensures { λ x. ⌜ layoutNamed n ≡ some x ⌝ }
+{
+    if n == 0 { Layout::Square } else { Layout::Half }
+}
 
 // The number of a set, or the refusal.
 pub fn set_number(c: Composed) -> u32

@@ -13,7 +13,8 @@ use borrow.Author.Tests.{lt-ltb, le-ltb}
 use Rattle.lists.proofs.Cases.{either-lt}
 use Rattle.trace.specs.declared.Record.{Record}
 use Rattle.trace.specs.Trace.{Trace}
-use Rattle.pairs.specs.Grid.{workSize}
+use Rattle.pairs.specs.declared.Layout.{Layout}
+use Rattle.pairs.specs.Layout.{workSize}
 use Rattle.rules.specs.declared.Rule.{Rule}
 use Rattle.rules.specs.declared.RuleRead.{RuleRead}
 use Rattle.rules.specs.declared.RuleRead.the-variants as RuleRead
@@ -44,84 +45,84 @@ module _ (file : List ℕ) where
       go (RuleRead.Refused c) e = absurd (g c (rule-met file c .0 e))
 
 -- 21 is decided where it is looked for; elsewhere it makes no difference
-pub handed : (file : List ℕ) (r : Record) (w : List ℕ) → (Reached file w → (k : Option Trace) × HandedBy r w k) → (k : Option Trace) × (Reached file w → HandedBy r w k)
-handed file r w d = either-lt (length w) workSize (λ s. (none, λ q. absurd (omega (arith, q .long)))) (λ s. go (ruleOf file) refl s)
+pub handed : (lay : Layout) (file : List ℕ) (r : Record) (w : List ℕ) → (Reached lay file w → (k : Option Trace) × HandedBy lay r w k) → (k : Option Trace) × (Reached lay file w → HandedBy lay r w k)
+handed lay file r w d = either-lt (length w) (workSize lay) (λ s. (none, λ q. absurd (omega (arith, q .long)))) (λ s. go (ruleOf file) refl s)
   where
-    go : (q : RuleRead) → ruleOf file ≡ q → workSize ≤ length w → (k : Option Trace) × (Reached file w → HandedBy r w k)
+    go : (q : RuleRead) → ruleOf file ≡ q → workSize lay ≤ length w → (k : Option Trace) × (Reached lay file w → HandedBy lay r w k)
     go (RuleRead.Refused n) p s = (none, λ q. no-rule (ruleOf file) n (q .rule) p (q .taken))
     go (RuleRead.Rule x) p s = let g = d (record { long = s; rule = x; taken = p }) in (g .0, λ _. g .1)
 
 -- ── the order ──
-module _ {A : Type 0} (file : List ℕ) (r : Record) (w : List ℕ) (refuse : ℕ → A) (after : Rule → Trace → A) where
+module _ {A : Type 0} (lay : Layout) (file : List ℕ) (r : Record) (w : List ℕ) (refuse : ℕ → A) (after : Rule → Trace → A) where
   abbrev pub stateBy : Option Trace → Rule → A
   stateBy none x = refuse 21
   stateBy (some t) x = after x t
 
   abbrev pub answerBy : Option Trace → A
-  answerBy k = cond (ltb (length w) workSize) (refuse 20) (withRule (ruleOf file) refuse (stateBy k))
+  answerBy k = cond (ltb (length w) (workSize lay)) (refuse 20) (withRule (ruleOf file) refuse (stateBy k))
 
-  by-short : (k : Option Trace) → length w < workSize → answerBy k ≡ refuse 20
-  by-short k s = simp (lt-ltb (length w) workSize s)
+  by-short : (k : Option Trace) → length w < workSize lay → answerBy k ≡ refuse 20
+  by-short k s = simp (lt-ltb (length w) (workSize lay) s)
 
-  by-rule : (k : Option Trace) → workSize ≤ length w → (q : RuleRead) → ruleOf file ≡ q → answerBy k ≡ withRule q refuse (stateBy k)
-  by-rule k s q e = simp (le-ltb (length w) workSize s) (ap (λ (z : RuleRead). withRule z refuse (stateBy k)) e)
+  by-rule : (k : Option Trace) → workSize lay ≤ length w → (q : RuleRead) → ruleOf file ≡ q → answerBy k ≡ withRule q refuse (stateBy k)
+  by-rule k s q e = simp (le-ltb (length w) (workSize lay) s) (ap (λ (z : RuleRead). withRule z refuse (stateBy k)) e)
 
   -- what holds of every refusal and of all that follows holds of the answer
-  module _ (P : A → Type 0) (refusals : (n : ℕ) → P (refuse n)) (lines : (x : Rule) (log : List ℕ) (t : Trace) → Left log t r w → P (after x t)) where
-    by-state : (k : Option Trace) → HandedBy r w k → (x : Rule) → P (stateBy k x)
+  module _ (P : A → Type 0) (refusals : (n : ℕ) → P (refuse n)) (lines : (x : Rule) (log : List ℕ) (t : Trace) → Left lay log t r w → P (after x t)) where
+    by-state : (k : Option Trace) → HandedBy lay r w k → (x : Rule) → P (stateBy k x)
     by-state none h x = refusals 21
     by-state (some t) h x = lines x (h .0) t (h .1)
 
-    pub every : (k : Option Trace) → (Reached file w → HandedBy r w k) → P (answerBy k)
+    pub every : (k : Option Trace) → (Reached lay file w → HandedBy lay r w k) → P (answerBy k)
     unfolding withRule
     every k h =
-        either-lt (length w) workSize
+        either-lt (length w) (workSize lay)
         (λ s. subst P (sym (by-short k s)) (refusals 20))
         (λ s. go (ruleOf file) refl s)
       where
-        go : (q : RuleRead) → ruleOf file ≡ q → workSize ≤ length w → P (answerBy k)
+        go : (q : RuleRead) → ruleOf file ≡ q → workSize lay ≤ length w → P (answerBy k)
         go (RuleRead.Refused n) e s = subst P (sym (by-rule k s _ e)) (refusals n)
         go (RuleRead.Rule x) e s = subst P (sym (by-rule k s _ e)) (by-state k (h (record { long = s; rule = x; taken = e })) x)
 
   module _ (out : A → Outcome) (says : (n : ℕ) → out (refuse n) ≡ Refused n) (met : Trace → ℕ → Type 0)
-      (line-met : (x : Rule) (log : List ℕ) (t : Trace) → Left log t r w → (c : ℕ) → (out (after x t) ≡ Refused c) ↔ met t c) where
+      (line-met : (x : Rule) (log : List ℕ) (t : Trace) → Left lay log t r w → (c : ℕ) → (out (after x t) ≡ Refused c) ↔ met t c) where
     same : (n c : ℕ) → out (refuse n) ≡ Refused c → n ≡ c
     same n c e = same-refusal c n (sym (says n) ∙ e)
 
     module _ (c : ℕ) where
-      state-met : (k : Option Trace) → workSize ≤ length w → Ruled file → HandedBy r w k → (x : Rule) → out (stateBy k x) ≡ Refused c → Met file r w met c
+      state-met : (k : Option Trace) → workSize lay ≤ length w → Ruled file → HandedBy lay r w k → (x : Rule) → out (stateBy k x) ≡ Refused c → Met lay file r w met c
       state-met none s g h x e = unknown s g h (sym (same 21 c e))
       state-met (some t) s g h x e = then s g (h .0) t (h .1) (line-met x (h .0) t (h .1) c .0 e)
 
-      state-unknown : (k : Option Trace) → HandedBy r w k → Unknown r w → (x : Rule) → c ≡ 21 → out (stateBy k x) ≡ Refused c
+      state-unknown : (k : Option Trace) → HandedBy lay r w k → Unknown lay r w → (x : Rule) → c ≡ 21 → out (stateBy k x) ≡ Refused c
       state-unknown none h u x e = says 21 ∙ ap Refused (sym e)
       state-unknown (some t) h u x e = absurd (u (h .0) t (h .1))
 
-      state-then : (k : Option Trace) → HandedBy r w k → (x : Rule) (log : List ℕ) (t : Trace) → Left log t r w → met t c → out (stateBy k x) ≡ Refused c
+      state-then : (k : Option Trace) → HandedBy lay r w k → (x : Rule) (log : List ℕ) (t : Trace) → Left lay log t r w → met t c → out (stateBy k x) ≡ Refused c
       state-then none h x log t l m = absurd (h log t l)
       state-then (some u) h x log t l m =
-          subst (λ (z : Trace). out (after x z) ≡ Refused c) (sym (one-trace r w (h .0) log u t (h .1) l)) (line-met x log t l c .1 m)
+          subst (λ (z : Trace). out (after x z) ≡ Refused c) (sym (one-trace lay r w (h .0) log u t (h .1) l)) (line-met x log t l c .1 m)
 
-      module _ (k : Option Trace) (h : Reached file w → HandedBy r w k) where
-        taken-answer : workSize ≤ length w → (x : Rule) → ruleOf file ≡ RuleRead.Rule x → answerBy k ≡ stateBy k x
+      module _ (k : Option Trace) (h : Reached lay file w → HandedBy lay r w k) where
+        taken-answer : workSize lay ≤ length w → (x : Rule) → ruleOf file ≡ RuleRead.Rule x → answerBy k ≡ stateBy k x
         unfolding withRule
         taken-answer s x e = by-rule k s _ e
 
-        handed-in : workSize ≤ length w → (x : Rule) → ruleOf file ≡ RuleRead.Rule x → HandedBy r w k
+        handed-in : workSize lay ≤ length w → (x : Rule) → ruleOf file ≡ RuleRead.Rule x → HandedBy lay r w k
         handed-in s x e = h (record { long = s; rule = x; taken = e })
 
-        forth : out (answerBy k) ≡ Refused c → Met file r w met c
+        forth : out (answerBy k) ≡ Refused c → Met lay file r w met c
         unfolding withRule
         forth e =
-            either-lt (length w) workSize
+            either-lt (length w) (workSize lay)
             (λ s. short s (sym (same 20 c (sym (ap out (by-short k s)) ∙ e))))
             (λ s. go (ruleOf file) refl s)
           where
-            go : (q : RuleRead) → ruleOf file ≡ q → workSize ≤ length w → Met file r w met c
+            go : (q : RuleRead) → ruleOf file ≡ q → workSize lay ≤ length w → Met lay file r w met c
             go (RuleRead.Refused n) q s = rule s (rule-met file c .0 (q ∙ ap RuleRead.Refused (same n c (sym (ap out (by-rule k s _ q)) ∙ e))))
             go (RuleRead.Rule x) q s = state-met k s (taken-ruled file x q) (handed-in s x q) x (sym (ap out (taken-answer s x q)) ∙ e)
 
-        back : Met file r w met c → out (answerBy k) ≡ Refused c
+        back : Met lay file r w met c → out (answerBy k) ≡ Refused c
         unfolding withRule
         back (short s e) = ap out (by-short k s) ∙ (says 20 ∙ ap Refused (sym e))
         back (rule s m) = ap out (by-rule k s _ (rule-met file c .1 m)) ∙ says c
@@ -132,5 +133,5 @@ module _ {A : Type 0} (file : List ℕ) (r : Record) (w : List ℕ) (refuse : �
             let x = ruled-taken file g in
             ap out (taken-answer s (x .0) (x .1)) ∙ state-then k (handed-in s (x .0) (x .1)) (x .0) log t l m
 
-        pub front-met : (out (answerBy k) ≡ Refused c) ↔ Met file r w met c
+        pub front-met : (out (answerBy k) ≡ Refused c) ↔ Met lay file r w met c
         front-met = (forth, back)

@@ -27,7 +27,7 @@ id-cases =
       ended-again = refl;
       ended-beside = refl;
       never-begun = refl;
-      noted = λ w out h. byte-of _ (bareRun 1 1 2 ∷ bareRun 1 3 4 ∷ []) w out h refl;
+      noted = λ lay w out h. byte-of lay _ (bareRun 1 1 2 ∷ bareRun 1 3 4 ∷ []) w out h refl;
       kept = again-output;
       broken = second-output;
     }

@@ -13,4 +13,5 @@ pub mod IdCases
 pub mod Worked
 pub mod Typed
 pub mod Slips
+pub mod Layouts
 pub mod Claims

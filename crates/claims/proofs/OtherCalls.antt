@@ -20,7 +20,8 @@ use Rattle.trace.specs.declared.Record.{Record}
 use Rattle.trace.specs.declared.RunNo.{RunNo}
 use Rattle.trace.specs.Trace.{Trace}
 use Rattle.trace.specs.Record.{Valid}
-use Rattle.pairs.specs.Grid.{workSize}
+use Rattle.pairs.specs.declared.Layout.{Layout}
+use Rattle.pairs.specs.Layout.{workSize}
 use Rattle.pairs.specs.Start.{startOf}
 use Rattle.pairs.specs.declared.Started.{Started}
 use Rattle.pairs.specs.declared.Start.the-variants as Start
@@ -44,23 +45,23 @@ same-start c d e = cc
 not-ready : {C : Type 0} (c : ℕ) → Start.Ready ≡ Start.Refused c → C
 not-ready c e = absurd (let z : _≡_ {A = ℕ} 0 1 = cc in omega arith)
 
-start-of-met : (w : List ℕ) (c : ℕ) → (startOf w .0 .outcome ≡ Start.Refused c) ↔ ((length w < workSize) × (c ≡ 20))
+start-of-met : (lay : Layout) (w : List ℕ) (c : ℕ) → (startOf lay w .0 .outcome ≡ Start.Refused c) ↔ ((length w < workSize lay) × (c ≡ 20))
 unfolding startOf
-start-of-met w c = (forth, λ p. simp (lt-ltb (length w) workSize (p .0)) (ap Start.Refused (sym (p .1))))
+start-of-met lay w c = (forth, λ p. simp (lt-ltb (length w) (workSize lay) (p .0)) (ap Start.Refused (sym (p .1))))
   where
-    forth : startOf w .0 .outcome ≡ Start.Refused c → (length w < workSize) × (c ≡ 20)
-    forth = either-lt (length w) workSize (λ s. simp (lt-ltb _ _ s) (λ e. (s, sym (same-start c 20 e)))) (λ s. simp (le-ltb _ _ s) (λ e. not-ready c e))
+    forth : startOf lay w .0 .outcome ≡ Start.Refused c → (length w < workSize lay) × (c ≡ 20)
+    forth = either-lt (length w) (workSize lay) (λ s. simp (lt-ltb _ _ s) (λ e. (s, sym (same-start c 20 e)))) (λ s. simp (le-ltb _ _ s) (λ e. not-ready c e))
 
-start-of-kept : (w : List ℕ) (c : ℕ) → startOf w .0 .outcome ≡ Start.Refused c → startOf w .1 ≡ w
+start-of-kept : (lay : Layout) (w : List ℕ) (c : ℕ) → startOf lay w .0 .outcome ≡ Start.Refused c → startOf lay w .1 ≡ w
 unfolding startOf
-start-of-kept w c e = simp (lt-ltb (length w) workSize (start-of-met w c .0 e .0))
+start-of-kept lay w c e = simp (lt-ltb (length w) (workSize lay) (start-of-met lay w c .0 e .0))
 
-module _ (w : List ℕ) (a : Started) (w′ : List ℕ) (h : _≡_ {A = Started × List ℕ} (a, w′) (startOf w)) (c : ℕ) where
-  pub start-met : (a .outcome ≡ Start.Refused c) ↔ ((length w < workSize) × (c ≡ 20))
-  start-met = subst (λ (z : Started × List ℕ). (z .0 .outcome ≡ Start.Refused c) ↔ ((length w < workSize) × (c ≡ 20))) (sym h) (start-of-met w c)
+module _ (lay : Layout) (w : List ℕ) (a : Started) (w′ : List ℕ) (h : _≡_ {A = Started × List ℕ} (a, w′) (startOf lay w)) (c : ℕ) where
+  pub start-met : (a .outcome ≡ Start.Refused c) ↔ ((length w < workSize lay) × (c ≡ 20))
+  start-met = subst (λ (z : Started × List ℕ). (z .0 .outcome ≡ Start.Refused c) ↔ ((length w < workSize lay) × (c ≡ 20))) (sym h) (start-of-met lay w c)
 
   pub start-kept : a .outcome ≡ Start.Refused c → w′ ≡ w
-  start-kept = subst (λ (z : Started × List ℕ). z .0 .outcome ≡ Start.Refused c → z .1 ≡ w) (sym h) (start-of-kept w c)
+  start-kept = subst (λ (z : Started × List ℕ). z .0 .outcome ≡ Start.Refused c → z .1 ≡ w) (sym h) (start-of-kept lay w c)
 
 -- ── the report ──
 same-reported : (c d : ℕ) → Reported.Refused d ≡ Reported.Refused c → d ≡ c
@@ -69,19 +70,19 @@ same-reported c d e = cc
 not-reported : {C : Type 0} (n c : ℕ) → Reported.Length n ≡ Reported.Refused c → C
 not-reported n c e = absurd (let z : _≡_ {A = ℕ} 0 1 = cc in omega arith)
 
-module _ (w out text : List ℕ) where
+module _ (lay : Layout) (w out text : List ℕ) where
   abbrev short? : Bool
-  short? = ltb (length w) workSize || (ltb (length out) 256 || ltb (length text) 2048)
+  short? = ltb (length w) (workSize lay) || (ltb (length out) 256 || ltb (length text) 2048)
 
   abbrev LongEnough : Type 0
-  LongEnough = (workSize ≤ length w) × (256 ≤ length out) × (2048 ≤ length text)
+  LongEnough = (workSize lay ≤ length w) × (256 ≤ length out) × (2048 ≤ length text)
 
   long-enough : LongEnough → short? ≡ false
   long-enough h = simp (le-ltb _ _ (h .0), le-ltb _ _ (h .1), le-ltb _ _ (h .2))
 
   too-short : (LongEnough → ⊥) → short? ≡ true
   too-short n =
-      either-lt (length w) workSize
+      either-lt (length w) (workSize lay)
       (λ a. simp (lt-ltb _ _ a))
       (λ a.
       either-lt (length out) 256
@@ -89,19 +90,19 @@ module _ (w out text : List ℕ) where
       (λ b. either-lt (length text) 2048 (λ c. simp (le-ltb _ _ a, le-ltb _ _ b, lt-ltb _ _ c)) (λ c. absurd (n (a, b, c)))))
 
   module _ (file log : List ℕ) (c : ℕ) where
-    refused-short : reportOf file log w out text .0 ≡ Reported.Refused c → (short? ≡ true) × (c ≡ 20)
+    refused-short : reportOf lay file log w out text .0 ≡ Reported.Refused c → (short? ≡ true) × (c ≡ 20)
     unfolding reportOf
     refused-short e =
         either-bool short?
         (λ s. (s, sym (same-reported c 20 (simp s at e))))
         (λ s. not-reported (length (reportText file log)) c (simp s at e))
 
-    short-refused : short? ≡ true → reportOf file log w out text ≡ (Reported.Refused 20, w, out, text)
+    short-refused : short? ≡ true → reportOf lay file log w out text ≡ (Reported.Refused 20, w, out, text)
     unfolding reportOf
     short-refused s = simp s
 
-    module _ (a : Reported) (w′ out′ text′ : List ℕ) (h : Reports file log w out text a w′ out′ text′) where
-      answered : a ≡ reportOf file log w out text .0
+    module _ (a : Reported) (w′ out′ text′ : List ℕ) (h : Reports lay file log w out text a w′ out′ text′) where
+      answered : a ≡ reportOf lay file log w out text .0
       answered = ap (λ (z : Result). z .0) (h .answer)
 
       pub report-met : (a ≡ Reported.Refused c) ↔ ((LongEnough → ⊥) × (c ≡ 20))

@@ -19,7 +19,8 @@ use Rattle.trace.specs.declared.Record.{Record}
 use Rattle.trace.specs.declared.RunNo.{RunNo}
 use Rattle.trace.specs.Trace.{Trace, Answer, next, refused, noTrace, step}
 use Rattle.trace.specs.Record.{recordOf}
-use Rattle.pairs.specs.Grid.{workSize}
+use Rattle.pairs.specs.declared.Layout.{Layout}
+use Rattle.pairs.specs.Layout.{workSize}
 use Rattle.pairs.specs.Pairs.{workOf}
 use Rattle.pairs.specs.declared.Start.the-variants as Start
 use Rattle.relations.specs.declared.Related.{Related}
@@ -67,7 +68,7 @@ pub rule-number : (file : List ℕ) (n : ℕ) → ruleOf file ≡ RuleRead.Refus
 rule-number file n e = let r = rule-range file n e in omega arith
 
 -- ── one line ──
-module _ (r : Record) (w : List ℕ) where
+module _ (lay : Layout) (r : Record) (w : List ℕ) where
   -- an answer that is refused is on the list and hands all back
   abbrev LineKept : Checked × List ℕ → Type 0
   LineKept a = (c : ℕ) → a .0 .outcome ≡ Refused c → Listed c × (a ≡ (refusing r c, w))
@@ -75,53 +76,53 @@ module _ (r : Record) (w : List ℕ) where
   kept-refusal : (n : ℕ) → Listed n → LineKept (refusing r n, w)
   kept-refusal n l c e = let f = same-refusal c n e in (omega (arith, l), (λ i. (refusing r (f i), w)))
 
-  kept-line : (file : List ℕ) (x : Rule) (t : Trace) (line : List ℕ) → r ≡ recordOf t → LineKept (advanceOf file x t w line)
+  kept-line : (file : List ℕ) (x : Rule) (t : Trace) (line : List ℕ) → r ≡ recordOf t → LineKept (advanceOf lay file x t w line)
   unfolding lineAfter
   kept-line file x t line s = go (step (next t) line) refl
     where
-      go : (a : Answer) → step (next t) line ≡ a → LineKept (lineAfter file x t w a)
+      go : (a : Answer) → step (next t) line ≡ a → LineKept (lineAfter lay file x t w a)
       go (next u) q c e = not-judged (verdictOf u (formulaOf file x)) c e
       go (refused d) q c e =
           let f = same-refusal c d e in
           let l = line-number t line d q in
           (omega arith, (λ i. (refusing (sym s i) (f i), w)))
 
-  kept-state : (file : List ℕ) (x : Rule) (line : List ℕ) (k : Option Trace) → HandedBy r w k → LineKept (stateOf file x r w line k)
+  kept-state : (file : List ℕ) (x : Rule) (line : List ℕ) (k : Option Trace) → HandedBy lay r w k → LineKept (stateOf lay file x r w line k)
   unfolding stateOf
   kept-state file x line none h = kept-refusal 21 (omega arith)
   kept-state file x line (some t) h = kept-line file x t line (h .1 .encoded)
 
-line-kept : (file : List ℕ) (r : Record) (w line : List ℕ) (k : Option Trace) → (Reached file w → HandedBy r w k) → LineKept r w (lineOf file r w line k)
+line-kept : (lay : Layout) (file : List ℕ) (r : Record) (w line : List ℕ) (k : Option Trace) → (Reached lay file w → HandedBy lay r w k) → LineKept lay r w (lineOf lay file r w line k)
 unfolding lineOf withRule
-line-kept file r w line k h =
-    either-lt (length w) workSize
-    (λ s. simp (lt-ltb _ _ s) (kept-refusal r w 20 (omega arith)))
+line-kept lay file r w line k h =
+    either-lt (length w) (workSize lay)
+    (λ s. simp (lt-ltb _ _ s) (kept-refusal lay r w 20 (omega arith)))
     (λ s. simp (le-ltb _ _ s) (go (ruleOf file) refl s))
   where
-    go : (q : RuleRead) → ruleOf file ≡ q → workSize ≤ length w → LineKept r w (withRule q (λ n. (refusing r n, w)) (λ x. stateOf file x r w line k))
-    go (RuleRead.Refused n) q s = kept-refusal r w n (rule-number file n q)
-    go (RuleRead.Rule x) q s = kept-state r w file x line k (h (record { long = s; rule = x; taken = q }))
+    go : (q : RuleRead) → ruleOf file ≡ q → workSize lay ≤ length w → LineKept lay r w (withRule q (λ n. (refusing r n, w)) (λ x. stateOf lay file x r w line k))
+    go (RuleRead.Refused n) q s = kept-refusal lay r w n (rule-number file n q)
+    go (RuleRead.Rule x) q s = kept-state lay r w file x line k (h (record { long = s; rule = x; taken = q }))
 
 -- ── one line with a tally ──
-module _ (r : Record) (y : Tally) (w : List ℕ) where
+module _ (lay : Layout) (r : Record) (y : Tally) (w : List ℕ) where
   abbrev TallyKept : Tallied × List ℕ → Type 0
   TallyKept a = (c : ℕ) → a .0 .outcome ≡ Refused c → Listed c × (a ≡ (refusingWith r y c, w))
 
   tally-refusal : (n : ℕ) → Listed n → TallyKept (refusingWith r y n, w)
   tally-refusal n l c e = let f = same-refusal c n e in (omega (arith, l), (λ i. (refusingWith r y (f i), w)))
 
-  tally-line : (file : List ℕ) (x : Rule) (t : Trace) (line : List ℕ) → r ≡ recordOf t → TallyKept (talliedAfter file x t y w (step (next t) line))
+  tally-line : (file : List ℕ) (x : Rule) (t : Trace) (line : List ℕ) → r ≡ recordOf t → TallyKept (talliedAfter lay file x t y w (step (next t) line))
   unfolding talliedAfter
   tally-line file x t line s = go (step (next t) line) refl
     where
-      go : (a : Answer) → step (next t) line ≡ a → TallyKept (talliedAfter file x t y w a)
+      go : (a : Answer) → step (next t) line ≡ a → TallyKept (talliedAfter lay file x t y w a)
       go (next u) q c e = not-judged (verdictOf u (formulaOf file x)) c e
       go (refused d) q c e =
           let f = same-refusal c d e in
           let l = line-number t line d q in
           (omega arith, (λ i. (refusingWith (sym s i) y (f i), w)))
 
-  tally-state : (file : List ℕ) (x : Rule) (line : List ℕ) (k : Option Trace) → HandedBy r w k → TallyKept (talliedState file x r y w line k)
+  tally-state : (file : List ℕ) (x : Rule) (line : List ℕ) (k : Option Trace) → HandedBy lay r w k → TallyKept (talliedState lay file x r y w line k)
   unfolding talliedState
   tally-state file x line none h = tally-refusal 21 (omega arith)
   tally-state file x line (some t) h =
@@ -129,59 +130,59 @@ module _ (r : Record) (y : Tally) (w : List ℕ) where
       (λ e. simp e (tally-line file x t line (h .1 .encoded)))
       (λ e. simp e (λ c q. let f = same-refusal c 24 q in (omega arith, (λ i. (refusingWith (sym (h .1 .encoded) i) y (f i), w)))))
 
-tallied-kept : (file : List ℕ) (r : Record) (y : Tally) (w line : List ℕ) (k : Option Trace) → (Reached file w → HandedBy r w k) → TallyKept r y w (talliedOf file r y w line k)
+tallied-kept : (lay : Layout) (file : List ℕ) (r : Record) (y : Tally) (w line : List ℕ) (k : Option Trace) → (Reached lay file w → HandedBy lay r w k) → TallyKept lay r y w (talliedOf lay file r y w line k)
 unfolding talliedOf withRule
-tallied-kept file r y w line k h =
-    either-lt (length w) workSize
-    (λ s. simp (lt-ltb _ _ s) (tally-refusal r y w 20 (omega arith)))
+tallied-kept lay file r y w line k h =
+    either-lt (length w) (workSize lay)
+    (λ s. simp (lt-ltb _ _ s) (tally-refusal lay r y w 20 (omega arith)))
     (λ s. simp (le-ltb _ _ s) (go (ruleOf file) refl s))
   where
-    go : (q : RuleRead) → ruleOf file ≡ q → workSize ≤ length w → TallyKept r y w (withRule q (λ n. (refusingWith r y n, w)) (λ x. talliedState file x r y w line k))
-    go (RuleRead.Refused n) q s = tally-refusal r y w n (rule-number file n q)
-    go (RuleRead.Rule x) q s = tally-state r y w file x line k (h (record { long = s; rule = x; taken = q }))
+    go : (q : RuleRead) → ruleOf file ≡ q → workSize lay ≤ length w → TallyKept lay r y w (withRule q (λ n. (refusingWith r y n, w)) (λ x. talliedState lay file x r y w line k))
+    go (RuleRead.Refused n) q s = tally-refusal lay r y w n (rule-number file n q)
+    go (RuleRead.Rule x) q s = tally-state lay r y w file x line k (h (record { long = s; rule = x; taken = q }))
 
 -- ── a whole log ──
 -- before any line is read, or at the first line that is refused
-data LogRefused (file log w out : List ℕ) (c n : ℕ) (a : LogRead) (w′ out′ : List ℕ) : Type 0 where
-  untouched : n ≡ 0 → a ≡ notRead c → w′ ≡ w → out′ ≡ out → LogRefused file log w out c n a w′ out′
+data LogRefused (lay : Layout) (file log w out : List ℕ) (c n : ℕ) (a : LogRead) (w′ out′ : List ℕ) : Type 0 where
+  untouched : n ≡ 0 → a ≡ notRead c → w′ ≡ w → out′ ≡ out → LogRefused lay file log w out c n a w′ out′
   at-line : (f : LineAt log n) → a ≡ ended (f .trace) (Ending.Refused c n)
-      → logOf file (f .before) w out ≡ (ended (f .trace) Ending.Read, w′, out′)
-      → LogRefused file log w out c n a w′ out′
+      → logOf lay file (f .before) w out ≡ (ended (f .trace) Ending.Read, w′, out′)
+      → LogRefused lay file log w out c n a w′ out′
 
-abbrev KeptLog : List ℕ → List ℕ → List ℕ → List ℕ → ℕ → ℕ → Type 0
-KeptLog file log w out c n = Listed c × LogRefused file log w out c n (logOf file log w out .0) (logOf file log w out .1) (logOf file log w out .2)
+abbrev KeptLog : (lay : Layout) → List ℕ → List ℕ → List ℕ → List ℕ → ℕ → ℕ → Type 0
+KeptLog lay file log w out c n = Listed c × LogRefused lay file log w out c n (logOf lay file log w out .0) (logOf lay file log w out .1) (logOf lay file log w out .2)
 
-log-of-kept : (file log w out : List ℕ) (c n : ℕ) → logOf file log w out .0 .ending ≡ Ending.Refused c n → KeptLog file log w out c n
+log-of-kept : (lay : Layout) (file log w out : List ℕ) (c n : ℕ) → logOf lay file log w out .0 .ending ≡ Ending.Refused c n → KeptLog lay file log w out c n
 unfolding logOf withRule first-refused
-log-of-kept file log w out c n e =
-    either-bool (ltb (length w) workSize || ltb (length out) 256)
+log-of-kept lay file log w out c n e =
+    either-bool (ltb (length w) (workSize lay) || ltb (length out) 256)
     (λ s. not-touched 20 (omega arith) (simp s))
     (λ s. go (ruleOf file) refl s)
   where
-    not-touched : (m : ℕ) → Listed m → logOf file log w out ≡ (notRead m, w, out) → KeptLog file log w out c n
+    not-touched : (m : ℕ) → Listed m → logOf lay file log w out ≡ (notRead m, w, out) → KeptLog lay file log w out c n
     not-touched m l q =
         let p = same-ending c m n 0 (sym (ap (λ (z : End). z .0 .ending) q) ∙ e) in
         (omega (arith, l, p .0), untouched (sym (p .1)) (ap (λ (z : End). z .0) q ∙ ap notRead (p .0)) (ap (λ (z : End). z .1) q) (ap (λ (z : End). z .2) q))
 
     -- the rule is taken and the buffers are long enough: the lines are read
-    read-first : (l : List ℕ) (x : Rule) → ruleOf file ≡ RuleRead.Rule x → ltb (length w) workSize || ltb (length out) 256 ≡ false
-        → logOf file l w out ≡ linesFrom file x noTrace (linesOf l) w out
-    read-first l x r s = simp s (ap (λ (z : RuleRead). withRule {A = End} z (λ n. (notRead n, w, out)) (λ x. linesFrom file x noTrace (linesOf l) w out)) r)
+    read-first : (l : List ℕ) (x : Rule) → ruleOf file ≡ RuleRead.Rule x → ltb (length w) (workSize lay) || ltb (length out) 256 ≡ false
+        → logOf lay file l w out ≡ linesFrom lay file x noTrace (linesOf l) w out
+    read-first l x r s = simp s (ap (λ (z : RuleRead). withRule {A = End} z (λ n. (notRead n, w, out)) (λ x. linesFrom lay file x noTrace (linesOf l) w out)) r)
 
-    go : (q : RuleRead) → ruleOf file ≡ q → ltb (length w) workSize || ltb (length out) 256 ≡ false → KeptLog file log w out c n
+    go : (q : RuleRead) → ruleOf file ≡ q → ltb (length w) (workSize lay) || ltb (length out) 256 ≡ false → KeptLog lay file log w out c n
     go (RuleRead.Refused m) r s =
         not-touched m (rule-number file m r)
-        (simp s (ap (λ (z : RuleRead). withRule {A = End} z (λ n. (notRead n, w, out)) (λ x. linesFrom file x noTrace (linesOf log) w out)) r))
+        (simp s (ap (λ (z : RuleRead). withRule {A = End} z (λ n. (notRead n, w, out)) (λ x. linesFrom lay file x noTrace (linesOf log) w out)) r))
     go (RuleRead.Rule x) r s =
         let q = read-first log x r s in
-        let g : Stopped file x w noTrace (linesOf log) out c n = stops file x w (linesOf log) noTrace out c n (sym (ap (λ (z : End). z .0 .ending) q) ∙ e) in
-        let b : List ℕ = start-of file x w (linesOf log) out c n g in
-        let k : logOf file b w out ≡ (ended (g .trace) Ending.Read, workOf (g .trace .runs) w, g .out′) =
-        read-first b x r s ∙ (ap (λ (z : List (List ℕ)). linesFrom file x noTrace z w out) (start-lines file x w (linesOf log) out c n g) ∙ g .kept) in
+        let g : Stopped lay file x w noTrace (linesOf log) out c n = stops lay file x w (linesOf log) noTrace out c n (sym (ap (λ (z : End). z .0 .ending) q) ∙ e) in
+        let b : List ℕ = start-of lay file x w (linesOf log) out c n g in
+        let k : logOf lay file b w out ≡ (ended (g .trace) Ending.Read, workOf lay (g .trace) w, g .out′) =
+        read-first b x r s ∙ (ap (λ (z : List (List ℕ)). linesFrom lay file x noTrace z w out) (start-lines lay file x w (linesOf log) out c n g) ∙ g .kept) in
         let z = q ∙ g .answer in
         let l = line-number (g .trace) (g .line) c (g .why) in (
           omega arith,
-          at-line (first-refused file x w log out c n g) (ap (λ (y : End). y .0) z)
+          at-line (first-refused lay file x w log out c n g) (ap (λ (y : End). y .0) z)
               (k ∙ (λ i. (ended (g .trace) Ending.Read, sym (ap (λ (y : End). y .1) z) i, sym (ap (λ (y : End). y .2) z) i))),
         )
 
@@ -189,25 +190,25 @@ log-of-kept file log w out c n e =
 module _ (k : LineCall) (c : ℕ) where
   line-by : k .answer .outcome ≡ Refused c → Listed c × (k .answer ≡ refusing (k .state) c) × (k .work′ ≡ k .work)
   line-by e =
-      let h = handed (k .file) (k .state) (k .work) (k .checks .decided) in
-      let z : LineKept (k .state) (k .work) (k .answer, k .work′) = subst (LineKept (k .state) (k .work)) (sym (k .checks .answer (h .0) (h .1))) (line-kept (k .file) (k .state) (k .work) (k .line) (h .0) (h .1)) in
+      let h = handed (k .layout) (k .file) (k .state) (k .work) (k .checks .decided) in
+      let z : LineKept (k .layout) (k .state) (k .work) (k .answer, k .work′) = subst (LineKept (k .layout) (k .state) (k .work)) (sym (k .checks .answer (h .0) (h .1))) (line-kept (k .layout) (k .file) (k .state) (k .work) (k .line) (h .0) (h .1)) in
       let y = z c e in
       (y .0, ap (λ (z : Checked × List ℕ). z .0) (y .1), ap (λ (z : Checked × List ℕ). z .1) (y .1))
 
 module _ (k : TalliedCall) (c : ℕ) where
   tallied-by : k .answer .outcome ≡ Refused c → Listed c × (k .answer ≡ refusingWith (k .state) (k .tally) c) × (k .work′ ≡ k .work)
   tallied-by e =
-      let h = handed (k .file) (k .state) (k .work) (k .checks .decided) in
-      let z : TallyKept (k .state) (k .tally) (k .work) (k .answer, k .work′) = subst (TallyKept (k .state) (k .tally) (k .work)) (sym (k .checks .answer (h .0) (h .1))) (tallied-kept (k .file) (k .state) (k .tally) (k .work) (k .line) (h .0) (h .1)) in
+      let h = handed (k .layout) (k .file) (k .state) (k .work) (k .checks .decided) in
+      let z : TallyKept (k .layout) (k .state) (k .tally) (k .work) (k .answer, k .work′) = subst (TallyKept (k .layout) (k .state) (k .tally) (k .work)) (sym (k .checks .answer (h .0) (h .1))) (tallied-kept (k .layout) (k .file) (k .state) (k .tally) (k .work) (k .line) (h .0) (h .1)) in
       let q = z c e in
       (q .0, ap (λ (z : Tallied × List ℕ). z .0) (q .1), ap (λ (z : Tallied × List ℕ). z .1) (q .1))
 
 module _ (k : LogCall) (c n : ℕ) where
-  log-refused : k .answer .ending ≡ Ending.Refused c n → Listed c × LogRefused (k .file) (k .log) (k .work) (k .verdicts) c n (k .answer) (k .work′) (k .verdicts′)
+  log-refused : k .answer .ending ≡ Ending.Refused c n → Listed c × LogRefused (k .layout) (k .file) (k .log) (k .work) (k .verdicts) c n (k .answer) (k .work′) (k .verdicts′)
   log-refused =
-      subst (λ (z : End). z .0 .ending ≡ Ending.Refused c n → Listed c × LogRefused (k .file) (k .log) (k .work) (k .verdicts) c n (z .0) (z .1) (z .2)) (sym (k .checks .answer)) (log-of-kept (k .file) (k .log) (k .work) (k .verdicts) c n)
+      subst (λ (z : End). z .0 .ending ≡ Ending.Refused c n → Listed c × LogRefused (k .layout) (k .file) (k .log) (k .work) (k .verdicts) c n (z .0) (z .1) (z .2)) (sym (k .checks .answer)) (log-of-kept (k .layout) (k .file) (k .log) (k .work) (k .verdicts) c n)
 
-  kept-call : LogRefused (k .file) (k .log) (k .work) (k .verdicts) c n (k .answer) (k .work′) (k .verdicts′) → LogKept k c n
+  kept-call : LogRefused (k .layout) (k .file) (k .log) (k .work) (k .verdicts) c n (k .answer) (k .work′) (k .verdicts′) → LogKept k c n
   kept-call (untouched a b d e) = unread a b d e
   kept-call (at-line f a b) = stopped f a b
 
@@ -230,17 +231,17 @@ pub demand-1 : Demand1
 demand-1 =
     record {
       start = λ k c.
-          let m = start-met (k .work) (k .answer) (k .work′) (k .starts) c in
-          record { listed = λ e. omega (arith, m .0 e .1); just-where = m; changes-nothing = start-kept (k .work) (k .answer) (k .work′) (k .starts) c };
-      line = λ k c. record { listed = λ e. line-by k c e .0; just-where = line-met (k .file) (k .state) (k .work) (k .line) (k .answer) (k .work′) (k .checks) c; changes-nothing = λ e. (line-by k c e .1, line-by k c e .2) };
-      tallied = λ k c. record { listed = λ e. tallied-by k c e .0; just-where = tallied-met (k .file) (k .state) (k .tally) (k .work) (k .line) (k .answer) (k .work′) (k .checks) c; changes-nothing = λ e. (tallied-by k c e .1, tallied-by k c e .2) };
-      log = λ k c n. record { listed = λ e. log-refused k c n e .0; just-where = log-met (k .file) (k .log) (k .work) (k .verdicts) (k .answer) (k .work′) (k .verdicts′) (k .checks) c n; changes-nothing = λ e. kept-call k c n (log-refused k c n e .1) };
+          let m = start-met (k .layout) (k .work) (k .answer) (k .work′) (k .starts) c in
+          record { listed = λ e. omega (arith, m .0 e .1); just-where = m; changes-nothing = start-kept (k .layout) (k .work) (k .answer) (k .work′) (k .starts) c };
+      line = λ k c. record { listed = λ e. line-by k c e .0; just-where = line-met (k .layout) (k .file) (k .state) (k .work) (k .line) (k .answer) (k .work′) (k .checks) c; changes-nothing = λ e. (line-by k c e .1, line-by k c e .2) };
+      tallied = λ k c. record { listed = λ e. tallied-by k c e .0; just-where = tallied-met (k .layout) (k .file) (k .state) (k .tally) (k .work) (k .line) (k .answer) (k .work′) (k .checks) c; changes-nothing = λ e. (tallied-by k c e .1, tallied-by k c e .2) };
+      log = λ k c n. record { listed = λ e. log-refused k c n e .0; just-where = log-met (k .layout) (k .file) (k .log) (k .work) (k .verdicts) (k .answer) (k .work′) (k .verdicts′) (k .checks) c n; changes-nothing = λ e. kept-call k c n (log-refused k c n e .1) };
       report = λ k c.
-          let m = report-met (k .work) (k .verdicts) (k .text) (k .file) (k .log) c (k .answer) (k .work′) (k .verdicts′) (k .text′) (k .reports) in
+          let m = report-met (k .layout) (k .work) (k .verdicts) (k .text) (k .file) (k .log) c (k .answer) (k .work′) (k .verdicts′) (k .text′) (k .reports) in
           record {
             listed = λ e. omega (arith, m .0 e .1);
             just-where = (λ e. (λ l. m .0 e .0 (l .work, l .verdicts, l .text), m .0 e .1), λ p. m .1 (λ l. p .0 (record { work = l .0; verdicts = l .1; text = l .2 }), p .1));
-            changes-nothing = report-kept (k .work) (k .verdicts) (k .text) (k .file) (k .log) c (k .answer) (k .work′) (k .verdicts′) (k .text′) (k .reports);
+            changes-nothing = report-kept (k .layout) (k .work) (k .verdicts) (k .text) (k .file) (k .log) c (k .answer) (k .work′) (k .verdicts′) (k .text′) (k .reports);
           };
       relate = λ r a b v h c. lent-nothing c (relate-met r a b v h c) (relate-listed r (a .0) (b .0) c);
       compose = λ a b v h c. lent-nothing c (compose-met a b v h c) (λ m. omega (arith, m .1));

@@ -217,7 +217,7 @@ passes-found file r a h e b k = go (answered file r (λ n. a ≡ withoutSlip (Fo
         of-file file r (λ n. b ≡ Passing.Refused n) (λ t f s. ReadsIn t f s (slipRuns (a .slip)) b) k f m s log t acc q .passes .1
         (w .slip (a .slip) .0 (with-slip a e) .passes)
 
-fails-line : (k : LineCall) (f : Formula) → RuleFile (k .file) f → SlipForm f → (log : List ℕ) (t : Trace) → Left log t (k .state) (k .work)
+fails-line : (k : LineCall) (f : Formula) → RuleFile (k .file) f → SlipForm f → (log : List ℕ) (t : Trace) → Left (k .layout) log t (k .state) (k .work)
     → (v : Verdict) → k .answer .outcome ≡ judged v → (a : Finding) → FindsFirst (k .file) (k .answer .state) a
     → (verdictByte v ≡ 0) ↔ (a .found ≡ Found.First)
 fails-line k f m s log t left v e a h =

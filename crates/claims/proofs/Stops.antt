@@ -8,6 +8,7 @@ use Rattle.lines.specs.Log.{linesOf}
 use Rattle.trace.specs.Trace.{Trace, Answer, next, refused, noTrace, step, steps, Accepted}
 use Rattle.trace.proofs.Taken.{line-lines}
 use Rattle.trace.proofs.Grown.{no-bytes, flat}
+use Rattle.pairs.specs.declared.Layout.{Layout}
 use Rattle.pairs.specs.Pairs.{workOf}
 use Rattle.rules.specs.declared.Rule.{Rule}
 use Rattle.rules.specs.Rules.{formulaOf}
@@ -41,7 +42,7 @@ same-ending c d n m e = ((cc), (cc))
 not-read-to-end : {C : Type 0} (c n : ℕ) → Ending.Read ≡ Ending.Refused c n → C
 not-read-to-end c n e = absurd (let z : _≡_ {A = ℕ} 0 1 = cc in omega arith)
 
-module _ (file : List ℕ) (x : Rule) (w : List ℕ) where
+module _ (lay : Layout) (file : List ℕ) (x : Rule) (w : List ℕ) where
   -- the lines from t on are refused with c at line n
   pub record Stopped (t : Trace) (ls : List (List ℕ)) (out : List ℕ) (c n : ℕ) : Type 0 where
     pub before : List (List ℕ)
@@ -54,21 +55,21 @@ module _ (file : List ℕ) (x : Rule) (w : List ℕ) where
     pub counted : trace .lines ≡ t .lines + length before
     pub at : n ≡ trace .lines + 1
     pub why : step (next trace) line ≡ refused c
-    pub kept : linesFrom file x t before w out ≡ (ended trace Ending.Read, workOf (trace .runs) w, out′)
-    pub answer : linesFrom file x t ls w out ≡ (ended trace (Ending.Refused c n), workOf (trace .runs) w, out′)
+    pub kept : linesFrom lay file x t before w out ≡ (ended trace Ending.Read, workOf lay trace w, out′)
+    pub answer : linesFrom lay file x t ls w out ≡ (ended trace (Ending.Refused c n), workOf lay trace w, out′)
 
   next-out : Trace → Trace → List ℕ → List ℕ
   next-out t u out = set out (t .lines) (verdictByte (verdictOf u (formulaOf file x)))
 
-  pub stops : (ls : List (List ℕ)) (t : Trace) (out : List ℕ) (c n : ℕ) → linesFrom file x t ls w out .0 .ending ≡ Ending.Refused c n → Stopped t ls out c n
+  pub stops : (ls : List (List ℕ)) (t : Trace) (out : List ℕ) (c n : ℕ) → linesFrom lay file x t ls w out .0 .ending ≡ Ending.Refused c n → Stopped t ls out c n
   unfolding next-out
-  stops [] t out c n e = not-read-to-end c n (sym (ap (λ (a : End). a .0 .ending) (from-none file x t w out)) ∙ e)
+  stops [] t out c n e = not-read-to-end c n (sym (ap (λ (a : End). a .0 .ending) (from-none lay file x t w out)) ∙ e)
   stops (l ∷ ls) t out c n e = go (step (next t) l) refl (λ u q. stops ls u (next-out t u out) c n)
     where
       go : (a : Answer) → step (next t) l ≡ a
-          → ((u : Trace) → step (next t) l ≡ next u → linesFrom file x u ls w (next-out t u out) .0 .ending ≡ Ending.Refused c n → Stopped u ls (next-out t u out) c n) → Stopped t (l ∷ ls) out c n
+          → ((u : Trace) → step (next t) l ≡ next u → linesFrom lay file x u ls w (next-out t u out) .0 .ending ≡ Ending.Refused c n → Stopped u ls (next-out t u out) c n) → Stopped t (l ∷ ls) out c n
       go (next u) q rest =
-          let f = from-taken file x t l ls w out u q in
+          let f = from-taken lay file x t l ls w out u q in
           let g : Stopped u ls (next-out t u out) c n = rest u q (sym (ap (λ (a : End). a .0 .ending) f) ∙ e) in
           let m = line-lines t u l q in
           record {
@@ -82,11 +83,11 @@ module _ (file : List ℕ) (x : Rule) (w : List ℕ) where
             counted = omega (arith, g .counted);
             at = g .at;
             why = g .why;
-            kept = from-taken file x t l (g .before) w out u q ∙ g .kept;
+            kept = from-taken lay file x t l (g .before) w out u q ∙ g .kept;
             answer = f ∙ g .answer;
           }
       go (refused d) q rest =
-          let f = from-refused file x t l ls w out d q in
+          let f = from-refused lay file x t l ls w out d q in
           let p = same-ending c d n (t .lines + 1) (sym (ap (λ (a : End). a .0 .ending) f) ∙ e) in
           record {
             before = [];
@@ -99,8 +100,8 @@ module _ (file : List ℕ) (x : Rule) (w : List ℕ) where
             counted = omega arith;
             at = sym (p .1);
             why = q ∙ ap refused (p .0);
-            kept = from-none file x t w out;
-            answer = f ∙ (λ i. (ended t (Ending.Refused (p .0 i) (p .1 i)), workOf (t .runs) w, out));
+            kept = from-none lay file x t w out;
+            answer = f ∙ (λ i. (ended t (Ending.Refused (p .0 i) (p .1 i)), workOf lay t w, out));
           }
 
   -- from no lines on, the lines before the refused one are an accepted log

@@ -13,7 +13,8 @@ use Rattle.lists.proofs.Cases.{either-lt}
 use Rattle.lists.specs.Limits.{maxLines}
 use Rattle.lines.specs.Log.{linesOf}
 use Rattle.trace.specs.Trace.{Trace, Accepted, Answer, next, refused, noTrace, step}
-use Rattle.pairs.specs.Grid.{workSize}
+use Rattle.pairs.specs.declared.Layout.{Layout}
+use Rattle.pairs.specs.Layout.{workSize}
 use Rattle.pairs.specs.Pairs.{workOf}
 use Rattle.reading.specs.declared.LogRead.{LogRead}
 use Rattle.reading.specs.declared.Ending.the-variants as Ending
@@ -195,23 +196,23 @@ equal-verdicts Holds Fails f g = absurd (let z = f refl in omega arith)
 equal-verdicts Fails Holds f g = absurd (let z = g refl in omega arith)
 equal-verdicts Fails Fails f g = refl
 
-module _ (one two : List ℕ) (x y : Rule) (same : (u : Trace) → verdictOf u (formulaOf one x) ≡ verdictOf u (formulaOf two y)) (w : List ℕ) where
-  lines-same : (ls : List (List ℕ)) (t : Trace) (out : List ℕ) → linesFrom one x t ls w out ≡ linesFrom two y t ls w out
+module _ (lay : Layout) (one two : List ℕ) (x y : Rule) (same : (u : Trace) → verdictOf u (formulaOf one x) ≡ verdictOf u (formulaOf two y)) (w : List ℕ) where
+  lines-same : (ls : List (List ℕ)) (t : Trace) (out : List ℕ) → linesFrom lay one x t ls w out ≡ linesFrom lay two y t ls w out
   unfolding linesFrom byAnswer
   lines-same [] t out = refl
   lines-same (l ∷ ls) t out = go (λ u o. lines-same ls u o) (step (next t) l)
     where
-      go : ((u : Trace) (o : List ℕ) → linesFrom one x u ls w o ≡ linesFrom two y u ls w o) → (a : Answer)
-          → byAnswer a (λ u. linesFrom one x u ls w (set out (t .lines) (verdictByte (verdictOf u (formulaOf one x))))) (λ c. (ended t (Ending.Refused c (t .lines + 1)), workOf (t .runs) w, out))
-          ≡ byAnswer a (λ u. linesFrom two y u ls w (set out (t .lines) (verdictByte (verdictOf u (formulaOf two y))))) (λ c. (ended t (Ending.Refused c (t .lines + 1)), workOf (t .runs) w, out))
-      go h (next u) = ap (λ (v : Verdict). linesFrom one x u ls w (set out (t .lines) (verdictByte v))) (same u) ∙ h u (set out (t .lines) (verdictByte (verdictOf u (formulaOf two y))))
+      go : ((u : Trace) (o : List ℕ) → linesFrom lay one x u ls w o ≡ linesFrom lay two y u ls w o) → (a : Answer)
+          → byAnswer a (λ u. linesFrom lay one x u ls w (set out (t .lines) (verdictByte (verdictOf u (formulaOf one x))))) (λ c. (ended t (Ending.Refused c (t .lines + 1)), workOf lay t w, out))
+          ≡ byAnswer a (λ u. linesFrom lay two y u ls w (set out (t .lines) (verdictByte (verdictOf u (formulaOf two y))))) (λ c. (ended t (Ending.Refused c (t .lines + 1)), workOf lay t w, out))
+      go h (next u) = ap (λ (v : Verdict). linesFrom lay one x u ls w (set out (t .lines) (verdictByte v))) (same u) ∙ h u (set out (t .lines) (verdictByte (verdictOf u (formulaOf two y))))
       go h (refused c) = refl
 
-  log-same : (log out : List ℕ) → ruleOf one ≡ RuleRead.Rule x → ruleOf two ≡ RuleRead.Rule y → logOf one log w out ≡ logOf two log w out
+  log-same : (log out : List ℕ) → ruleOf one ≡ RuleRead.Rule x → ruleOf two ≡ RuleRead.Rule y → logOf lay one log w out ≡ logOf lay two log w out
   unfolding logOf withRule
   log-same log out p q =
-      let short : Bool = ltb (length w) workSize || ltb (length out) maxLines in
-      let by : List ℕ → RuleRead → LogRead × List ℕ × List ℕ = λ file r. cond short (notRead 20, w, out) (withRule r (λ n. (notRead n, w, out)) (λ z. linesFrom file z noTrace (linesOf log) w out)) in
+      let short : Bool = ltb (length w) (workSize lay) || ltb (length out) maxLines in
+      let by : List ℕ → RuleRead → LogRead × List ℕ × List ℕ = λ file r. cond short (notRead 20, w, out) (withRule r (λ n. (notRead n, w, out)) (λ z. linesFrom lay file z noTrace (linesOf log) w out)) in
       ap (by one) p ∙ (ap (λ (z : LogRead × List ℕ × List ℕ). cond short (notRead 20, w, out) z) (lines-same (linesOf log) noTrace out) ∙ sym (ap (by two) q))
 
 same-verdicts : (one two : List ℕ) (x y : Rule) → ruleOf one ≡ RuleRead.Rule x → ruleOf two ≡ RuleRead.Rule y
@@ -251,12 +252,12 @@ module _ (k : WriteCall) where
       }
 
   checks-same : (x : Rule) → ruleOf (k .file) ≡ RuleRead.Rule x → (text : List ℕ) → text ≡ ruleText (formulaOf (k .file) x) → (j : ReadCall) (m : ℕ) → j .text ≡ text → j .answer ≡ Length m
-      → (log w out : List ℕ) → logOf (take m (j .rule′)) log w out ≡ logOf (k .file) log w out
-  checks-same x p text q j m e a log w out =
+      → (lay : Layout) (log w out : List ℕ) → logOf lay (take m (j .rule′)) log w out ≡ logOf lay (k .file) log w out
+  checks-same x p text q j m e a lay log w out =
       let g = again x p text q j e (long-enough j m a) in
       let r : RuleFile (take m (j .rule′)) (formulaSaid (g .read .tree)) = subst (λ (i : ℕ). RuleFile (take i (j .rule′)) (formulaSaid (g .read .tree))) (same-length (g .size) m (sym (g .taken) ∙ a)) (g .read .rule) in
       let y = rule-file-taken (take m (j .rule′)) (formulaSaid (g .read .tree)) r in
-      log-same (take m (j .rule′)) (k .file) (y .0) x (same-verdicts (take m (j .rule′)) (k .file) (y .0) x (y .1) p (λ t ρ. subst (λ (f : Formula). Satisfies t ρ f ↔ Satisfies t ρ (formulaOf (k .file) x)) (sym (y .2)) (g .verdict t ρ))) w log out (y .1) p
+      log-same lay (take m (j .rule′)) (k .file) (y .0) x (same-verdicts (take m (j .rule′)) (k .file) (y .0) x (y .1) p (λ t ρ. subst (λ (f : Formula). Satisfies t ρ f ↔ Satisfies t ρ (formulaOf (k .file) x)) (sym (y .2)) (g .verdict t ρ))) w log out (y .1) p
 
   writing : (n : ℕ) → k .answer ≡ Length n → Writing k n
   writing n e =

@@ -1,5 +1,5 @@
 -- Demand 2: what is noted and said after every accepted line, of what each call leaves.
-use Prim.Native.Nat.{ℕ, suc, _+_, _*_, _≤_, _<_}
+use Prim.Native.Nat.{ℕ, suc, _+_, _≤_, _<_}
 use mathlib.Core.Path.{_≡_, refl, ap, sym, _∙_, subst}
 use mathlib.Core.Logic.{_≢_, _↔_}
 use mathlib.Core.List.{List, [], _∷_, _++_}
@@ -7,7 +7,7 @@ use mathlib.Core.Bool.{true}
 use native.Mathlib.Omega.{arith}
 use lib.ListN.{length, getD, take}
 use borrow.Author.Tests.{lt-ltb, le-ltb}
-use Rattle.lists.specs.Limits.{maxRuns, maxLines}
+use Rattle.lists.specs.Limits.{maxLines}
 use Rattle.lists.proofs.Cases.{either-lt, either-bool, no-both}
 use Rattle.lists.proofs.Lists.{append-nil}
 use Rattle.lines.specs.Log.{linesOf}
@@ -18,12 +18,12 @@ use Rattle.trace.specs.Record.{recordOf}
 use Rattle.trace.proofs.Accepted.{accepted-orderly, one-line}
 use Rattle.trace.proofs.Grown.{no-bytes}
 use Rattle.trace.proofs.Size.{accepted-short}
-use Rattle.pairs.specs.Grid.{workSize}
+use Rattle.pairs.specs.declared.Layout.{Layout}
+use Rattle.pairs.specs.Layout.{workSize}
 use Rattle.pairs.specs.declared.Started.{Started}
 use Rattle.pairs.specs.declared.Start.the-variants as Start
 use Rattle.pairs.specs.Pairs.{pairByte, workOf}
 use Rattle.pairs.specs.Start.{startOf}
-use Rattle.pairs.proofs.Grid.{getD-gridIn}
 use Rattle.pairs.proofs.Accepted.{pair-byte-names-the-order}
 use Rattle.relations.specs.Relation as Relation
 use Rattle.relations.specs.Runs.{FinishedRun, RelatesRuns}
@@ -41,7 +41,7 @@ use Rattle.tallies.specs.Tally.{counts?, failed, tallyAfter, TallyCounts}
 use Rattle.reading.specs.declared.Ending.{Ending}
 use Rattle.reading.specs.declared.Ending.the-variants as Ending
 use Rattle.reading.specs.Left.{Left}
-use Rattle.reading.proofs.Settled.{work-over}
+use Rattle.pairs.proofs.Work.{work-over, work-pair, work-other}
 use Rattle.reading.proofs.Standing.{pairs-long}
 use Rattle.whole_log.proofs.Repeated.{left-by, log-is-repeated-line}
 use Rattle.whole_log.proofs.Verdicts.{verdicts-of-prefixes}
@@ -86,60 +86,63 @@ byte-notes log t h a b =
     }
 
 -- what accepted lines leave is settled
-pub left-settled : (log : List ℕ) (t : Trace) (r : Record) (w : List ℕ) → Left log t r w → Settled log r w
-left-settled log t r w l =
+pub left-settled : (lay : Layout) (log : List ℕ) (t : Trace) (r : Record) (w : List ℕ) → Left lay log t r w → Settled lay log r w
+left-settled lay log t r w l =
     record {
       trace = t;
       left = l;
       notes = λ a b h k.
-          subst (Notes t a b)
-          (sym (ap (λ (z : List ℕ). getD z (maxRuns * a + b) 0) (l .pairs) ∙ getD-gridIn (pairByte (t .runs)) w a b h k))
-          (byte-notes log t (l .accepted) a b);
+          subst (Notes t a b) (sym (work-pair lay t w w (l .pairs) a b h k)) (byte-notes log t (l .accepted) a b);
+      others = work-other lay t w w (l .pairs);
+      forward = λ a b h.
+          let n = byte-notes log t (l .accepted) a b in
+          let z : pairByte (t .runs) a b ≡ 0 = no-pair (t .runs) a b (λ p. omega (arith, p .0)) in
+          ((λ r. omega (arith, z, n .is-before .1 r)), (λ r. omega (arith, z, n .is-overlaps .1 r)), (λ r. omega (arith, z, n .is-includes .1 r)));
     }
 
 -- the pair bytes of a buffer, once written, are those of what is there
-over : (log : List ℕ) (t : Trace) (r : Record) (w w′ : List ℕ) → Accepted log t → r ≡ recordOf t → w′ ≡ workOf (t .runs) w → Left log t r w′
-over log t r w w′ a s p =
-    record { accepted = a; encoded = s; pairs = p ∙ (sym (work-over (t .runs) (t .runs) w) ∙ ap (workOf (t .runs)) (sym p)) }
+over : (lay : Layout) (log : List ℕ) (t : Trace) (r : Record) (w w′ : List ℕ) → Accepted log t → r ≡ recordOf t → w′ ≡ workOf lay t w → Left lay log t r w′
+over lay log t r w w′ a s p =
+    record { accepted = a; encoded = s; pairs = p ∙ (sym (work-over lay t w t) ∙ ap (workOf lay t) (sym p)) }
 
 -- ── starting a record ──
 not-ready : {C : Type 0} (c : ℕ) → Start.Refused c ≡ Start.Ready → C
 not-ready c e = absurd (let z : _≡_ {A = ℕ} 0 1 = cc in omega arith)
 
-started : (w : List ℕ) → startOf w .0 .outcome ≡ Start.Ready → Settled [] (startOf w .0 .state) (startOf w .1)
+started : (lay : Layout) (w : List ℕ) → startOf lay w .0 .outcome ≡ Start.Ready → Settled lay [] (startOf lay w .0 .state) (startOf lay w .1)
 unfolding startOf
-started w =
-    either-lt (length w) workSize
-    (λ s. simp (lt-ltb (length w) workSize s) (λ e. not-ready 20 e))
-    (λ s. simp (le-ltb (length w) workSize s) (λ e. left-settled [] noTrace _ _ (left-by [] noTrace no-bytes w)))
+started lay w =
+    either-lt (length w) (workSize lay)
+    (λ s. simp (lt-ltb (length w) (workSize lay) s) (λ e. not-ready 20 e))
+    (λ s. simp (le-ltb (length w) (workSize lay) s) (λ e. left-settled lay [] noTrace _ _ (left-by lay [] noTrace no-bytes w)))
 
 -- ── one line ──
-module _ (k : LineCall) (x : Rule) (rule : ruleOf (k .file) ≡ RuleRead.Rule x) (log : List ℕ) (t : Trace) (l : Left log t (k .state) (k .work)) (v : Verdict) (o : k .answer .outcome ≡ judged v) where
-  line-judged : Judged (k .file) x (log ++ k .line) (k .answer .state) (k .work′) v
+module _ (k : LineCall) (x : Rule) (rule : ruleOf (k .file) ≡ RuleRead.Rule x) (log : List ℕ) (t : Trace) (l : Left (k .layout) log t (k .state) (k .work)) (v : Verdict) (o : k .answer .outcome ≡ judged v) where
+  line-judged : Judged (k .layout) (k .file) x (log ++ k .line) (k .answer .state) (k .work′) v
   unfolding left-settled
   line-judged =
       let m = k .checks .meaning x rule log t l .taken v o in
-      record { settled = left-settled _ (m .trace) _ _ (over _ (m .trace) _ (k .work) _ (m .accepted) (m .state) (m .pairs)); verdict = m .verdict }
+      record { settled = left-settled (k .layout) _ (m .trace) _ _ (over (k .layout) _ (m .trace) _ (k .work) _ (m .accepted) (m .state) (m .pairs)); verdict = m .verdict }
 
-module _ (k : TalliedCall) (x : Rule) (rule : ruleOf (k .file) ≡ RuleRead.Rule x) (log : List ℕ) (t : Trace) (l : Left log t (k .state) (k .work)) (v : Verdict) (o : k .answer .outcome ≡ judged v) where
+module _ (k : TalliedCall) (x : Rule) (rule : ruleOf (k .file) ≡ RuleRead.Rule x) (log : List ℕ) (t : Trace) (l : Left (k .layout) log t (k .state) (k .work)) (v : Verdict) (o : k .answer .outcome ≡ judged v) where
   -- a line that is taken does not meet 24
   tally-right : counts? t (k .tally) ≡ true
   tally-right =
       either-bool (counts? t (k .tally))
       (λ b. b)
       (λ b.
-      let n = tallied-met (k .file) (k .state) (k .tally) (k .work) (k .line) (k .answer) (k .work′) (k .checks) 24 .1
-      (then (pairs-long (t .runs) (k .work) (k .work) (l .pairs)) (taken-ruled (k .file) x rule) log t l
+      let n = tallied-met (k .layout) (k .file) (k .state) (k .tally) (k .work) (k .line) (k .answer) (k .work′) (k .checks) 24 .1
+      (then (pairs-long (k .layout) t (k .work) (k .work) (l .pairs)) (taken-ruled (k .file) x rule) log t l
       (wrong (λ c. no-both (sym (counts-says t (k .tally) .1 c) ∙ b)) refl)) in
       not-judged v 24 (sym o ∙ n))
 
-  tallied-judged : Judged (k .file) x (log ++ k .line) (k .answer .state) (k .work′) v × TallyCounts (log ++ k .line) (k .answer .tally) × (k .answer .tally .failing ≡ k .tally .failing + failed v)
+  tallied-judged : Judged (k .layout) (k .file) x (log ++ k .line) (k .answer .state) (k .work′) v × TallyCounts (log ++ k .line) (k .answer .tally) × (k .answer .tally .failing ≡ k .tally .failing + failed v)
       × (k .tally ≡ tallyAfter (k .file) x log t → (u : Trace) → Accepted (log ++ k .line) u → k .answer .tally ≡ tallyAfter (k .file) x (log ++ k .line) u)
   unfolding left-settled
   tallied-judged =
       let h = k .checks .meaning x rule log t l tally-right in
       let m = h .single .taken v o in
-      (record { settled = left-settled _ (m .trace) _ _ (over _ (m .trace) _ (k .work) _ (m .accepted) (m .state) (m .pairs)); verdict = m .verdict }, h .counts v o, h .failing v o, λ p u a. h .goes-on p v o u a)
+      (record { settled = left-settled (k .layout) _ (m .trace) _ _ (over (k .layout) _ (m .trace) _ (k .work) _ (m .accepted) (m .state) (m .pairs)); verdict = m .verdict }, h .counts v o, h .failing v o, λ p u a. h .goes-on p v o u a)
 
 -- ── a whole log ──
 some-left : (l : List ℕ) (ls : List (List ℕ)) → l ∷ ls ≢ []
@@ -152,7 +155,7 @@ some-left l ls e = absurd (let z : _≡_ {A = ℕ} 0 1 = ap kept-count e in omeg
 not-read : {C : Type 0} (c n : ℕ) → Ending.Refused c n ≡ Ending.Read → C
 not-read c n e = absurd (let z : _≡_ {A = ℕ} 0 1 = cc in omega arith)
 
-module _ (k : LogCall) (x : Rule) (rule : ruleOf (k .file) ≡ RuleRead.Rule x) (long : workSize ≤ length (k .work)) (room : maxLines ≤ length (k .verdicts)) where
+module _ (k : LogCall) (x : Rule) (rule : ruleOf (k .file) ≡ RuleRead.Rule x) (long : workSize (k .layout) ≤ length (k .work)) (room : maxLines ≤ length (k .verdicts)) where
   line-verdicts : (n : ℕ) (part : List ℕ) (u : Trace) → n < length (linesOf (k .log)) → linesOf part ≡ take (suc n) (linesOf (k .log)) → Accepted part u
       → (v : Verdict) × (getD (k .verdicts′) n 0 ≡ verdictByte v) × Says u (formulaOf (k .file) x) v
   unfolding read
@@ -169,7 +172,7 @@ module _ (k : LogCall) (x : Rule) (rule : ruleOf (k .file) ≡ RuleRead.Rule x) 
         divides = sym (append-nil (linesOf (k .log)));
         whole = λ _. refl;
         stops = λ c n q. not-read c n (sym q ∙ e);
-        settled = left-settled _ (m .trace) _ _ (over _ (m .trace) _ (k .work) _ (m .accepted) (m .state) (m .pairs));
+        settled = left-settled (k .layout) _ (m .trace) _ _ (over (k .layout) _ (m .trace) _ (k .work) _ (m .accepted) (m .state) (m .pairs));
         verdicts = line-verdicts;
       }
   log-reads (Ending.Refused c n) e =
@@ -180,7 +183,7 @@ module _ (k : LogCall) (x : Rule) (rule : ruleOf (k .file) ≡ RuleRead.Rule x) 
         divides = m .first .lines;
         whole = λ q. not-read c n (sym e ∙ q);
         stops = λ d i q. (some-left _ _, sym (same-ending d c i n (sym e ∙ q) .1) ∙ m .first .number);
-        settled = left-settled _ (m .first .trace) _ _ (over _ (m .first .trace) _ (k .work) _ (m .first .accepted) (m .state) (m .pairs));
+        settled = left-settled (k .layout) _ (m .first .trace) _ _ (over (k .layout) _ (m .first .trace) _ (k .work) _ (m .first .accepted) (m .state) (m .pairs));
         verdicts = line-verdicts;
       }
 
@@ -188,7 +191,7 @@ pub demand-2 : Demand2
 demand-2 =
     record {
       rule = λ file f. (rule-file-taken file f, λ p. subst (RuleFile file) (p .2) (rule-says file (p .0) (p .1)));
-      start = λ k e. subst (λ (z : Started × List ℕ). z .0 .outcome ≡ Start.Ready → Settled [] (z .0 .state) (z .1)) (sym (k .starts)) (started (k .work)) e;
+      start = λ k e. subst (λ (z : Started × List ℕ). z .0 .outcome ≡ Start.Ready → Settled (k .layout) [] (z .0 .state) (z .1)) (sym (k .starts)) (started (k .layout) (k .work)) e;
       line = line-judged;
       tallied = tallied-judged;
       zeros = tally-starts;
@@ -197,7 +200,7 @@ demand-2 =
       log = λ k x e long room. log-reads k x e long room (k .answer .ending) refl;
       report = λ k n e. (λ x p. k .reports .meaning n x e p, λ c p. k .reports .unruled n c e p);
       repeats = log-is-repeated-line;
-      prefixes = λ file w out log part n e h u a. verdicts-of-prefixes file w out log part n e h u a;
+      prefixes = λ lay file w out log part n e h u a. verdicts-of-prefixes lay file w out log part n e h u a;
       first-bytes = first-bytes-decide;
       first-bytes-report = first-bytes-decide-report;
       accepted = λ log t a. let o = accepted-orderly log t a in (o, one-line t o, accepted-spoken log t a, accepted-short log t a);

@@ -32,7 +32,8 @@ use Rattle.reading.specs.Left.{Left}
 use Rattle.single.specs.Line.{refusing, lineAfter, advanceOf, stateOf, withRule, lineOf, ChecksLine}
 use Rattle.tallies.specs.Tally.{refusingWith, counts?, talliedAfter, talliedState, talliedOf, ChecksTallied}
 use Rattle.whole_log.specs.Log.{notRead, linesFrom, logOf, ChecksLog}
-use Rattle.pairs.specs.Grid.{workSize}
+use Rattle.pairs.specs.declared.Layout.{Layout}
+use Rattle.pairs.specs.Layout.{workSize}
 use Rattle.whole_log.proofs.Lines.{from-taken, from-refused}
 use Rattle.reading.proofs.Lines.{same-trace, after-line, no-line}
 use Rattle.accepted_logs.specs.MetAfter.{MetAfter}
@@ -42,30 +43,30 @@ use Rattle.accepted_logs.proofs.AfterMet.{after-met}
 use Rattle.claims.proofs.Fronts.{taken-ruled, ruled-taken, handed, answerBy, front-met}
 
 -- ── one line ──
-module _ (file : List ℕ) (r : Record) (w line : List ℕ) where
+module _ (lay : Layout) (file : List ℕ) (r : Record) (w line : List ℕ) where
   abbrev Answered : Type 0
   Answered = Checked × List ℕ
 
   -- 20, the rule, 21, then the line
-  pub line-answer : (k : Option Trace) → lineOf file r w line k ≡ answerBy {A = Answered} file r w (λ n. (refusing r n, w)) (λ x t. advanceOf file x t w line) k
+  pub line-answer : (k : Option Trace) → lineOf lay file r w line k ≡ answerBy {A = Answered} lay file r w (λ n. (refusing r n, w)) (λ x t. advanceOf lay file x t w line) k
   unfolding lineOf stateOf
   line-answer none = refl
   line-answer (some t) = refl
 
-  advance-met : (x : Rule) (log : List ℕ) (t : Trace) → Left log t r w → (c : ℕ) → (advanceOf file x t w line .0 .outcome ≡ Refused c) ↔ MetAfter t line c
+  advance-met : (x : Rule) (log : List ℕ) (t : Trace) → Left lay log t r w → (c : ℕ) → (advanceOf lay file x t w line .0 .outcome ≡ Refused c) ↔ MetAfter t line c
   unfolding lineAfter
-  advance-met x log t l c = (λ e. go (step (next t) line) refl e, λ m. ap (λ (a : Answer). lineAfter file x t w a .0 .outcome) (after-met log t (l .accepted) line c .1 m))
+  advance-met x log t l c = (λ e. go (step (next t) line) refl e, λ m. ap (λ (a : Answer). lineAfter lay file x t w a .0 .outcome) (after-met log t (l .accepted) line c .1 m))
     where
-      go : (a : Answer) → step (next t) line ≡ a → lineAfter file x t w a .0 .outcome ≡ Refused c → MetAfter t line c
+      go : (a : Answer) → step (next t) line ≡ a → lineAfter lay file x t w a .0 .outcome ≡ Refused c → MetAfter t line c
       go (next u) q e = not-judged (verdictOf u (formulaOf file x)) c e
       go (refused d) q e = after-met log t (l .accepted) line c .0 (q ∙ ap refused (same-refusal c d e))
 
-pub line-met : (file : List ℕ) (r : Record) (w line : List ℕ) (a : Checked) (w′ : List ℕ) → ChecksLine file r w line a w′
-    → (c : ℕ) → (a .outcome ≡ Refused c) ↔ Met file r w (λ t n. MetAfter t line n) c
-line-met file r w line a w′ h c =
-    let k = handed file r w (h .decided) in
-    subst (λ (z : Checked × List ℕ). (z .0 .outcome ≡ Refused c) ↔ Met file r w (λ t n. MetAfter t line n) c) (sym (h .answer (k .0) (k .1) ∙ line-answer file r w line (k .0)))
-    (front-met file r w (λ n. (refusing r n, w)) (λ x t. advanceOf file x t w line) (λ z. z .0 .outcome) (λ n. refl) (λ t n. MetAfter t line n) (advance-met file r w line) c (k .0) (k .1))
+pub line-met : (lay : Layout) (file : List ℕ) (r : Record) (w line : List ℕ) (a : Checked) (w′ : List ℕ) → ChecksLine lay file r w line a w′
+    → (c : ℕ) → (a .outcome ≡ Refused c) ↔ Met lay file r w (λ t n. MetAfter t line n) c
+line-met lay file r w line a w′ h c =
+    let k = handed lay file r w (h .decided) in
+    subst (λ (z : Checked × List ℕ). (z .0 .outcome ≡ Refused c) ↔ Met lay file r w (λ t n. MetAfter t line n) c) (sym (h .answer (k .0) (k .1) ∙ line-answer lay file r w line (k .0)))
+    (front-met lay file r w (λ n. (refusing r n, w)) (λ x t. advanceOf lay file x t w line) (λ z. z .0 .outcome) (λ n. refl) (λ t n. MetAfter t line n) (advance-met lay file r w line) c (k .0) (k .1))
 
 -- ── one line with a tally ──
 -- the test of a tally tells whether its counts are those of the lines
@@ -111,136 +112,136 @@ module _ (t : Trace) (y : Tally) where
   pub counts-says : (counts? t y ≡ true) ↔ Counts t y
   counts-says = (counts-forth, counts-back)
 
-module _ (file : List ℕ) (r : Record) (y : Tally) (w line : List ℕ) where
+module _ (lay : Layout) (file : List ℕ) (r : Record) (y : Tally) (w line : List ℕ) where
   abbrev TalliedAnswer : Type 0
   TalliedAnswer = Tallied × List ℕ
 
   pub tallied-answer : (k : Option Trace)
-      → talliedOf file r y w line k ≡ answerBy {A = TalliedAnswer} file r w (λ n. (refusingWith r y n, w)) (λ x t. talliedState file x r y w line (some t)) k
+      → talliedOf lay file r y w line k ≡ answerBy {A = TalliedAnswer} lay file r w (λ n. (refusingWith r y n, w)) (λ x t. talliedState lay file x r y w line (some t)) k
   unfolding talliedOf talliedState
   tallied-answer none = refl
   tallied-answer (some t) = refl
 
   module _ (x : Rule) (t : Trace) where
-    of-wrong : counts? t y ≡ false → talliedState file x r y w line (some t) .0 .outcome ≡ Refused 24
+    of-wrong : counts? t y ≡ false → talliedState lay file x r y w line (some t) .0 .outcome ≡ Refused 24
     unfolding talliedState
     of-wrong e = simp e
 
-    of-right : counts? t y ≡ true → (a : Answer) → step (next t) line ≡ a → talliedState file x r y w line (some t) .0 .outcome ≡ talliedAfter file x t y w a .0 .outcome
+    of-right : counts? t y ≡ true → (a : Answer) → step (next t) line ≡ a → talliedState lay file x r y w line (some t) .0 .outcome ≡ talliedAfter lay file x t y w a .0 .outcome
     unfolding talliedState
-    of-right e a q = simp e (ap (λ (z : Answer). talliedAfter file x t y w z .0 .outcome) q)
+    of-right e a q = simp e (ap (λ (z : Answer). talliedAfter lay file x t y w z .0 .outcome) q)
 
-  tally-met : (x : Rule) (log : List ℕ) (t : Trace) → Left log t r w → (c : ℕ) → (talliedState file x r y w line (some t) .0 .outcome ≡ Refused c) ↔ MetTally y line t c
+  tally-met : (x : Rule) (log : List ℕ) (t : Trace) → Left lay log t r w → (c : ℕ) → (talliedState lay file x r y w line (some t) .0 .outcome ≡ Refused c) ↔ MetTally y line t c
   unfolding talliedAfter
   tally-met x log t l c = (forth, back)
     where
-      go : counts? t y ≡ true → (a : Answer) → step (next t) line ≡ a → talliedState file x r y w line (some t) .0 .outcome ≡ Refused c → MetTally y line t c
+      go : counts? t y ≡ true → (a : Answer) → step (next t) line ≡ a → talliedState lay file x r y w line (some t) .0 .outcome ≡ Refused c → MetTally y line t c
       go b (next u) q e = not-judged (verdictOf u (formulaOf file x)) c (sym (of-right x t b (next u) q) ∙ e)
       go b (refused d) q e =
           right (counts-says t y .0 b)
           (after-met log t (l .accepted) line c .0 (q ∙ ap refused (same-refusal c d (sym (of-right x t b (refused d) q) ∙ e))))
 
-      forth : talliedState file x r y w line (some t) .0 .outcome ≡ Refused c → MetTally y line t c
+      forth : talliedState lay file x r y w line (some t) .0 .outcome ≡ Refused c → MetTally y line t c
       forth e =
           either-bool (counts? t y)
           (λ b. go b (step (next t) line) refl e)
           (λ b. wrong (λ k. no-both (sym (counts-says t y .1 k) ∙ b)) (sym (same-refusal c 24 (sym (of-wrong x t b) ∙ e))))
 
-      back : MetTally y line t c → talliedState file x r y w line (some t) .0 .outcome ≡ Refused c
+      back : MetTally y line t c → talliedState lay file x r y w line (some t) .0 .outcome ≡ Refused c
       back (wrong n e) =
           either-bool (counts? t y)
           (λ b. absurd (n (counts-says t y .0 b)))
           (λ b. of-wrong x t b ∙ ap Refused (sym e))
       back (right k m) = of-right x t (counts-says t y .1 k) (refused c) (after-met log t (l .accepted) line c .1 m)
 
-pub tallied-met : (file : List ℕ) (r : Record) (y : Tally) (w line : List ℕ) (a : Tallied) (w′ : List ℕ) → ChecksTallied file r y w line a w′
-    → (c : ℕ) → (a .outcome ≡ Refused c) ↔ Met file r w (MetTally y line) c
-tallied-met file r y w line a w′ h c =
-    let k = handed file r w (h .decided) in
-    subst (λ (z : Tallied × List ℕ). (z .0 .outcome ≡ Refused c) ↔ Met file r w (MetTally y line) c) (sym (h .answer (k .0) (k .1) ∙ tallied-answer file r y w line (k .0)))
-    (front-met file r w (λ n. (refusingWith r y n, w)) (λ x t. talliedState file x r y w line (some t)) (λ z. z .0 .outcome) (λ n. refl) (MetTally y line) (tally-met file r y w line) c (k .0) (k .1))
+pub tallied-met : (lay : Layout) (file : List ℕ) (r : Record) (y : Tally) (w line : List ℕ) (a : Tallied) (w′ : List ℕ) → ChecksTallied lay file r y w line a w′
+    → (c : ℕ) → (a .outcome ≡ Refused c) ↔ Met lay file r w (MetTally y line) c
+tallied-met lay file r y w line a w′ h c =
+    let k = handed lay file r w (h .decided) in
+    subst (λ (z : Tallied × List ℕ). (z .0 .outcome ≡ Refused c) ↔ Met lay file r w (MetTally y line) c) (sym (h .answer (k .0) (k .1) ∙ tallied-answer lay file r y w line (k .0)))
+    (front-met lay file r w (λ n. (refusingWith r y n, w)) (λ x t. talliedState lay file x r y w line (some t)) (λ z. z .0 .outcome) (λ n. refl) (MetTally y line) (tally-met lay file r y w line) c (k .0) (k .1))
 
 -- ── a whole log ──
-module _ (file : List ℕ) (x : Rule) (w : List ℕ) (line : List ℕ) (after : List (List ℕ)) (t : Trace) (c : ℕ) (e : step (next t) line ≡ refused c) where
+module _ (lay : Layout) (file : List ℕ) (x : Rule) (w : List ℕ) (line : List ℕ) (after : List (List ℕ)) (t : Trace) (c : ℕ) (e : step (next t) line ≡ refused c) where
   -- the lines from s on stop at the line that is refused
   from-stop : (before : List (List ℕ)) (s : Trace) (out : List ℕ) (n : ℕ) → steps (next s) before ≡ next t → n ≡ s .lines + length before + 1
-      → linesFrom file x s (before ++ (line ∷ after)) w out .0 .ending ≡ Ending.Refused c n
+      → linesFrom lay file x s (before ++ (line ∷ after)) w out .0 .ending ≡ Ending.Refused c n
   from-stop [] s out n p m =
       let q : step (next s) line ≡ refused c = ap (λ (z : Trace). step (next z) line) (same-trace s t p) ∙ e in
       let k : s .lines + 1 ≡ n = omega (arith, m) in
-      ap (λ (a : End). a .0 .ending) (from-refused file x s line after w out c q) ∙ ap (Ending.Refused c) k
+      ap (λ (a : End). a .0 .ending) (from-refused lay file x s line after w out c q) ∙ ap (Ending.Refused c) k
   from-stop (l ∷ ls) s out n p m =
       by-answer s l
       (λ u q.
       let v = after-line s u t l ls q p in
       let k = line-lines s u l q in
-      ap (λ (a : End). a .0 .ending) (from-taken file x s l (ls ++ (line ∷ after)) w out u q) ∙ from-stop ls u _ n v (omega (arith, m, k)))
+      ap (λ (a : End). a .0 .ending) (from-taken lay file x s l (ls ++ (line ∷ after)) w out u q) ∙ from-stop ls u _ n v (omega (arith, m, k)))
       (λ d q. no-line s t d l ls q p)
 
-module _ (w out : List ℕ) where
+module _ (lay : Layout) (w out : List ℕ) where
   abbrev Short : Type 0
-  Short = ltb (length w) workSize || ltb (length out) 256 ≡ true
+  Short = ltb (length w) (workSize lay) || ltb (length out) 256 ≡ true
 
-  is-short-work : length w < workSize → Short
+  is-short-work : length w < workSize lay → Short
   is-short-work s = simp (lt-ltb _ _ s)
 
   is-short-verdicts : length out < 256 → Short
-  is-short-verdicts s = either-bool (ltb (length w) workSize) (λ b. simp b) (λ b. simp (b, lt-ltb _ _ s))
+  is-short-verdicts s = either-bool (ltb (length w) (workSize lay)) (λ b. simp b) (λ b. simp (b, lt-ltb _ _ s))
 
   module _ (file log : List ℕ) where
-    log-short : Short → logOf file log w out .0 .ending ≡ Ending.Refused 20 0
+    log-short : Short → logOf lay file log w out .0 .ending ≡ Ending.Refused 20 0
     unfolding logOf
     log-short s = simp s
 
     logRule : RuleRead → End
-    logRule q = withRule q (λ n. (notRead n, w, out)) (λ x. linesFrom file x noTrace (linesOf log) w out)
+    logRule q = withRule q (λ n. (notRead n, w, out)) (λ x. linesFrom lay file x noTrace (linesOf log) w out)
 
-    log-by-rule : workSize ≤ length w → 256 ≤ length out → (q : RuleRead) → ruleOf file ≡ q → logOf file log w out .0 .ending ≡ logRule q .0 .ending
+    log-by-rule : workSize lay ≤ length w → 256 ≤ length out → (q : RuleRead) → ruleOf file ≡ q → logOf lay file log w out .0 .ending ≡ logRule q .0 .ending
     unfolding logOf logRule
     log-by-rule s v q e =
-        let b : ltb (length w) workSize || ltb (length out) 256 ≡ false = simp (le-ltb _ _ s, le-ltb _ _ v) in
+        let b : ltb (length w) (workSize lay) || ltb (length out) 256 ≡ false = simp (le-ltb _ _ s, le-ltb _ _ v) in
         simp b (ap (λ (z : RuleRead). logRule z .0 .ending) e)
 
-log-of-met : (file log w out : List ℕ) (c n : ℕ) → (logOf file log w out .0 .ending ≡ Ending.Refused c n) ↔ MetLog file log w out c n
+log-of-met : (lay : Layout) (file log w out : List ℕ) (c n : ℕ) → (logOf lay file log w out .0 .ending ≡ Ending.Refused c n) ↔ MetLog lay file log w out c n
 unfolding logRule withRule read first-refused
-log-of-met file log w out c n = (forth, back)
+log-of-met lay file log w out c n = (forth, back)
   where
-    short : Short w out → logOf file log w out .0 .ending ≡ Ending.Refused 20 0
-    short = log-short w out file log
+    short : Short lay w out → logOf lay file log w out .0 .ending ≡ Ending.Refused 20 0
+    short = log-short lay w out file log
 
-    rule : workSize ≤ length w → 256 ≤ length out → (q : RuleRead) → ruleOf file ≡ q → logOf file log w out .0 .ending ≡ logRule w out file log q .0 .ending
-    rule = log-by-rule w out file log
+    rule : workSize lay ≤ length w → 256 ≤ length out → (q : RuleRead) → ruleOf file ≡ q → logOf lay file log w out .0 .ending ≡ logRule lay w out file log q .0 .ending
+    rule = log-by-rule lay w out file log
 
-    reading : workSize ≤ length w → 256 ≤ length out → (q : RuleRead) → ruleOf file ≡ q → logOf file log w out .0 .ending ≡ Ending.Refused c n → MetLog file log w out c n
+    reading : workSize lay ≤ length w → 256 ≤ length out → (q : RuleRead) → ruleOf file ≡ q → logOf lay file log w out .0 .ending ≡ Ending.Refused c n → MetLog lay file log w out c n
     reading s v (RuleRead.Refused m) q e =
         let p = same-ending c m n 0 (sym (rule s v _ q) ∙ e) in
         log-rule s v (rule-met file c .0 (q ∙ ap RuleRead.Refused (p .0))) (sym (p .1))
     reading s v (RuleRead.Rule x) q e =
-        let g : Stopped file x w noTrace (linesOf log) out c n = stops file x w (linesOf log) noTrace out c n (sym (rule s v _ q) ∙ e) in
-        log-line s v (taken-ruled file x q) (first-refused file x w log out c n g)
-        (after-met (start-of file x w (linesOf log) out c n g) (g .trace) (start-accepted file x w (linesOf log) out c n g) (g .line) c .0 (g .why))
+        let g : Stopped lay file x w noTrace (linesOf log) out c n = stops lay file x w (linesOf log) noTrace out c n (sym (rule s v _ q) ∙ e) in
+        log-line s v (taken-ruled file x q) (first-refused lay file x w log out c n g)
+        (after-met (start-of lay file x w (linesOf log) out c n g) (g .trace) (start-accepted lay file x w (linesOf log) out c n g) (g .line) c .0 (g .why))
 
-    forth : logOf file log w out .0 .ending ≡ Ending.Refused c n → MetLog file log w out c n
+    forth : logOf lay file log w out .0 .ending ≡ Ending.Refused c n → MetLog lay file log w out c n
     forth e =
-        either-lt (length w) workSize
-        (λ s. let p = same-ending c 20 n 0 (sym (short (is-short-work w out s)) ∙ e) in short-work s (sym (p .0)) (sym (p .1)))
+        either-lt (length w) (workSize lay)
+        (λ s. let p = same-ending c 20 n 0 (sym (short (is-short-work lay w out s)) ∙ e) in short-work s (sym (p .0)) (sym (p .1)))
         (λ s.
         either-lt (length out) 256
-        (λ v. let p = same-ending c 20 n 0 (sym (short (is-short-verdicts w out v)) ∙ e) in short-verdicts v (sym (p .0)) (sym (p .1)))
+        (λ v. let p = same-ending c 20 n 0 (sym (short (is-short-verdicts lay w out v)) ∙ e) in short-verdicts v (sym (p .0)) (sym (p .1)))
         (λ v. reading s v (ruleOf file) refl e))
 
-    back : MetLog file log w out c n → logOf file log w out .0 .ending ≡ Ending.Refused c n
-    back (short-work s e m) = short (is-short-work w out s) ∙ (λ i. Ending.Refused (sym e i) (sym m i))
-    back (short-verdicts s e m) = short (is-short-verdicts w out s) ∙ (λ i. Ending.Refused (sym e i) (sym m i))
+    back : MetLog lay file log w out c n → logOf lay file log w out .0 .ending ≡ Ending.Refused c n
+    back (short-work s e m) = short (is-short-work lay w out s) ∙ (λ i. Ending.Refused (sym e i) (sym m i))
+    back (short-verdicts s e m) = short (is-short-verdicts lay w out s) ∙ (λ i. Ending.Refused (sym e i) (sym m i))
     back (log-rule s v q m) = rule s v _ (rule-met file c .1 q) ∙ ap (Ending.Refused c) (sym m)
     back (log-line s v g f m) =
         let z = ruled-taken file g in
         let x = z .0 in
         rule s v _ (z .1)
-        ∙ (ap (λ (z : List (List ℕ)). linesFrom file x noTrace z w out .0 .ending) (f .lines)
-        ∙ from-stop file x w (f .line) (f .after) (f .trace) c (after-met (f .before) (f .trace) (f .accepted) (f .line) c .1 m) (linesOf (f .before)) noTrace out n (f .accepted .leaves) (omega (arith, f .number)))
+        ∙ (ap (λ (z : List (List ℕ)). linesFrom lay file x noTrace z w out .0 .ending) (f .lines)
+        ∙ from-stop lay file x w (f .line) (f .after) (f .trace) c (after-met (f .before) (f .trace) (f .accepted) (f .line) c .1 m) (linesOf (f .before)) noTrace out n (f .accepted .leaves) (omega (arith, f .number)))
 
-pub log-met : (file log w out : List ℕ) (a : LogRead) (w′ out′ : List ℕ) → ChecksLog file log w out a w′ out′
-    → (c n : ℕ) → (a .ending ≡ Ending.Refused c n) ↔ MetLog file log w out c n
-log-met file log w out a w′ out′ h c n =
-    subst (λ (z : End). (z .0 .ending ≡ Ending.Refused c n) ↔ MetLog file log w out c n) (sym (h .answer)) (log-of-met file log w out c n)
+pub log-met : (lay : Layout) (file log w out : List ℕ) (a : LogRead) (w′ out′ : List ℕ) → ChecksLog lay file log w out a w′ out′
+    → (c n : ℕ) → (a .ending ≡ Ending.Refused c n) ↔ MetLog lay file log w out c n
+log-met lay file log w out a w′ out′ h c n =
+    subst (λ (z : End). (z .0 .ending ≡ Ending.Refused c n) ↔ MetLog lay file log w out c n) (sym (h .answer)) (log-of-met lay file log w out c n)

@@ -5,6 +5,9 @@ use mathlib.Core.List.{List}
 use lib.ListN.{length, set}
 use Rattle.lists.specs.Lists.{bytes}
 use Rattle.lines.specs.Line.{value}
+use Rattle.pairs.specs.declared.Layout.{Layout}
+use Rattle.pairs.specs.declared.Layout.the-variants.{Square, Half}
+use Rattle.pairs.specs.Layout.{place}
 use Rattle.pairs.specs.Pairs.{workOf}
 use Rattle.relations.specs.Compose.{Examples}
 use Rattle.rules.specs.declared.RuleRead.the-variants as RuleRead
@@ -17,7 +20,7 @@ use Rattle.single.specs.Line.{judged}
 use Rattle.reading.specs.declared.Ending.the-variants as Ending
 use Rattle.reading.specs.Reading.{ended}
 use Rattle.whole_log.specs.Log.{logOf}
-use Rattle.whole_log.specs.Cases.{Long, pairByte1, p1Log, p1Trace}
+use Rattle.whole_log.specs.Cases.{Long, firstPair, p1Log, p1Trace}
 use Rattle.tallies.specs.Tally.{tallyAfter}
 use Rattle.report.specs.Text.{reportText}
 use Rattle.claims.specs.TypedCases.{TypedCases}
@@ -29,28 +32,32 @@ pub record P1 : Type 0 where
   pub rule : ruleOf p1File ≡ RuleRead.Rule p1Rule
   pub formula : formulaOf p1File p1Rule ≡ noEveningIncludesTest
   -- H, H, H, F
-  pub verdicts : (w out : List ℕ) → Long w out
-      → logOf p1File p1Log w out
-      ≡ (ended p1Trace Ending.Read, workOf (p1Trace .runs) w, set (set (set (set out 0 1) 1 1) 2 1) 3 0)
+  pub verdicts : (lay : Layout) (w out : List ℕ) → Long lay w out
+      → logOf lay p1File p1Log w out
+      ≡ (ended p1Trace Ending.Read, workOf lay p1Trace w, set (set (set (set out 0 1) 1 1) 2 1) 3 0)
   -- "Whole output"
   pub output : reportText p1File p1Log ≡ bytes "1 H\n2 H\n3 H\n4 F\nT 4 2 2 0 1\n"
   pub tally : tallyAfter p1File p1Rule p1Log p1Trace
       ≡ record { lines = 4; begun = 2; finished = 2; running = 0; failing = 1 }
-  -- "Pair byte 1 (run 0 with run 1) is 0, 1, 4, 7 after the four lines."
-  pub byte-1 : (w out : List ℕ) → Long w out → pairByte1 (bytes "B 7 EVENING\n") w out ≡ 0
-  pub byte-2 : (w out : List ℕ) → Long w out → pairByte1 (bytes "B 7 EVENING\nB 9 TEST\n") w out ≡ 1
-  pub byte-3 : (w out : List ℕ) → Long w out → pairByte1 (bytes "B 7 EVENING\nB 9 TEST\nE 9\n") w out ≡ 4
-  pub byte-4 : (w out : List ℕ) → Long w out → pairByte1 p1Log w out ≡ 7
+  -- "Pair byte 1 (run 0 with run 1) is 0, 1, 4, 7 after the four lines."; in the half layout it is byte 0
+  pub byte-1 : (lay : Layout) (w out : List ℕ) → Long lay w out → firstPair lay (bytes "B 7 EVENING\n") w out ≡ 0
+  pub byte-2 : (lay : Layout) (w out : List ℕ) → Long lay w out
+      → firstPair lay (bytes "B 7 EVENING\nB 9 TEST\n") w out ≡ 1
+  pub byte-3 : (lay : Layout) (w out : List ℕ) → Long lay w out
+      → firstPair lay (bytes "B 7 EVENING\nB 9 TEST\nE 9\n") w out ≡ 4
+  pub byte-4 : (lay : Layout) (w out : List ℕ) → Long lay w out → firstPair lay p1Log w out ≡ 7
 
 -- "with P1's rule, `B 1 TEST`, `E 1` gives H, H"
 abbrev pub P9 : Type 0
-P9 = (w out : List ℕ) → Long w out → logOf p1File (bytes "B 1 TEST\nE 1\n") w out .2 ≡ set (set out 0 1) 1 1
+P9 = (lay : Layout) (w out : List ℕ) → Long lay w out
+    → logOf lay p1File (bytes "B 1 TEST\nE 1\n") w out .2 ≡ set (set out 0 1) 1 1
 
 -- "rule "some A, same A A" over `B 1`, `E 1` gives F, F"
 pub record P10 : Type 0 where
   pub rule : ruleOf p10File ≡ RuleRead.Rule p10Rule
   pub formula : formulaOf p10File p10Rule ≡ someSameAsItself
-  pub verdicts : (w out : List ℕ) → Long w out → logOf p10File (bytes "B 1\nE 1\n") w out .2 ≡ set (set out 0 0) 1 0
+  pub verdicts : (lay : Layout) (w out : List ℕ) → Long lay w out
+      → logOf lay p10File (bytes "B 1\nE 1\n") w out .2 ≡ set (set out 0 0) 1 0
 
 -- how an id's digits are read, and how a verdict is told
 pub record Numbers : Type 0 where
@@ -58,6 +65,14 @@ pub record Numbers : Type 0 where
   pub in-order : value (bytes "120") ≡ 120
   pub holds : (judged Verdict.Holds ≡ Outcome.Holds) × (verdictByte Verdict.Holds ≡ 1)
   pub fails : (judged Verdict.Fails ≡ Outcome.Fails) × (verdictByte Verdict.Fails ≡ 0)
+
+-- the places of some pairs in each layout
+pub record LayoutCases : Type 0 where
+  pub of-0-1 : (place Square 0 1 ≡ 1) × (place Half 0 1 ≡ 0)
+  pub of-0-2 : (place Square 0 2 ≡ 2) × (place Half 0 2 ≡ 1)
+  pub of-1-2 : (place Square 1 2 ≡ 130) × (place Half 1 2 ≡ 2)
+  pub of-0-127 : (place Square 0 127 ≡ 127) × (place Half 0 127 ≡ 8001)
+  pub of-126-127 : (place Square 126 127 ≡ 16255) × (place Half 126 127 ≡ 8127)
 
 pub record Cases : Type 0 where
   pub p1 : P1
@@ -70,3 +85,4 @@ pub record Cases : Type 0 where
   pub typed : TypedCases
   pub slips : SlipCases
   pub ids : IdCases
+  pub layouts : LayoutCases

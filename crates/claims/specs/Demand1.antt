@@ -12,7 +12,7 @@ use Rattle.lines.specs.declared.Next.the-variants as Next
 use Rattle.lines.specs.declared.Parsed.the-variants as Parsed
 use Rattle.trace.specs.declared.Record.{Record}
 use Rattle.trace.specs.declared.RunNo.{RunNo}
-use Rattle.pairs.specs.Grid.{workSize}
+use Rattle.pairs.specs.Layout.{workSize}
 use Rattle.pairs.specs.declared.Start.the-variants as Start
 use Rattle.relations.specs.declared.Related.the-variants as RelateAnswer
 use Rattle.relations.specs.declared.Related as Answer
@@ -54,23 +54,25 @@ pub record Refuses (c : ℕ) (answered met kept : Type 0) : Type 0 where
 pub data LogKept (k : LogCall) (c n : ℕ) : Type 0 where
   unread : n ≡ 0 → k .answer ≡ notRead c → k .work′ ≡ k .work → k .verdicts′ ≡ k .verdicts → LogKept k c n
   stopped : (f : LineAt (k .log) n) → k .answer ≡ ended (f .trace) (Ending.Refused c n)
-      → logOf (k .file) (f .before) (k .work) (k .verdicts) ≡ (ended (f .trace) Ending.Read, k .work′, k .verdicts′)
+      → logOf (k .layout) (k .file) (f .before) (k .work) (k .verdicts)
+      ≡ (ended (f .trace) Ending.Read, k .work′, k .verdicts′)
       → LogKept k c n
 
 pub record Demand1 : Type 0 where
   pub start : (k : StartCall) (c : ℕ)
-      → Refuses c (k .answer .outcome ≡ Start.Refused c) ((length (k .work) < workSize) × (c ≡ 20)) (k .work′ ≡ k .work)
+      → Refuses c (k .answer .outcome ≡ Start.Refused c)
+      ((length (k .work) < workSize (k .layout)) × (c ≡ 20)) (k .work′ ≡ k .work)
   pub line : (k : LineCall) (c : ℕ)
       → Refuses c (k .answer .outcome ≡ Refused c)
-      (Met (k .file) (k .state) (k .work) (λ t n. MetAfter t (k .line) n) c)
+      (Met (k .layout) (k .file) (k .state) (k .work) (λ t n. MetAfter t (k .line) n) c)
       ((k .answer ≡ refusing (k .state) c) × (k .work′ ≡ k .work))
   pub tallied : (k : TalliedCall) (c : ℕ)
       → Refuses c (k .answer .outcome ≡ Refused c)
-      (Met (k .file) (k .state) (k .work) (MetTally (k .tally) (k .line)) c)
+      (Met (k .layout) (k .file) (k .state) (k .work) (MetTally (k .tally) (k .line)) c)
       ((k .answer ≡ refusingWith (k .state) (k .tally) c) × (k .work′ ≡ k .work))
   pub log : (k : LogCall) (c n : ℕ)
       → Refuses c (k .answer .ending ≡ Ending.Refused c n)
-      (MetLog (k .file) (k .log) (k .work) (k .verdicts) c n) (LogKept k c n)
+      (MetLog (k .layout) (k .file) (k .log) (k .work) (k .verdicts) c n) (LogKept k c n)
   pub report : (k : ReportCall) (c : ℕ)
       → Refuses c (k .answer ≡ Reported.Refused c) ((LongEnough k → ⊥) × (c ≡ 20))
       ((k .work′ ≡ k .work) × (k .verdicts′ ≡ k .verdicts) × (k .text′ ≡ k .text))
@@ -88,6 +90,6 @@ pub record Demand1 : Type 0 where
   pub next : (log : List ℕ) (p c : ℕ)
       → Refuses c (nextLine log p ≡ Next.Refused c)
       ((p < length log) × (has? 10 (take lineLimit (drop p log)) ≡ false) × (c ≡ 11)) (advancedFrom log p .place ≡ p)
-  -- "no call changes a byte past those it is stated to write; work bytes past 16,384 never change"; of typed rules it
-  -- is said in `Reading` and `Writing`
+  -- "no call changes a byte past those it is stated to write; work bytes past 16,384 never change", here those past the
+  -- size of the layout named; of typed rules it is said in `Reading` and `Writing`
   pub untouched : (w w′ : List ℕ) (n : ℕ) → Lent w w′ n → Beyond n w w′

@@ -11,7 +11,8 @@ use Rattle.trace.specs.declared.RunNo.{RunNo}
 use Rattle.trace.specs.Trace.{Trace, noTrace, Accepted}
 use Rattle.trace.specs.Record.{recordOf}
 use Rattle.trace.specs.Orderly.{Orderly, OneRun, maxLogBytes}
-use Rattle.pairs.specs.Grid.{workSize}
+use Rattle.pairs.specs.declared.Layout.{Layout}
+use Rattle.pairs.specs.Layout.{workSize}
 use Rattle.pairs.specs.declared.Start.the-variants as Start
 use Rattle.pairs.specs.Start.{startOf}
 use Rattle.relations.specs.declared.Related as Answer
@@ -39,23 +40,24 @@ use Rattle.accepted_logs.specs.Spoken.{Spoken, Accepting}
 
 -- "After every accepted line, the relation noted for each pair of runs is the one that their line positions give, and
 -- the verdict is "holds" if and only if the rule, as the published interval logic defines it, is true of the lines
--- read so far." `Settled`: the record and the work area are those of accepted lines, and the byte at the place of
--- every two runs notes what their positions give; `Judged`: and the verdict says whether the lines satisfy the rule.
+-- read so far." `Settled`: the record and the work area are those of accepted lines, and the byte at the place that the
+-- layout named has for two runs notes what their positions give; `Judged`: and the verdict says whether the lines
+-- satisfy the rule.
 pub record Demand2 : Type 0 where
   -- a file that is taken is a rule file, and its formula the one that its table stands for
   pub rule : (file : List ℕ) (f : Formula)
       → RuleFile file f ↔ ((x : Rule) × (ruleOf file ≡ RuleRead.Rule x) × (formulaOf file x ≡ f))
   -- a record that is started is that of no lines
-  pub start : (k : StartCall) → k .answer .outcome ≡ Start.Ready → Settled [] (k .answer .state) (k .work′)
+  pub start : (k : StartCall) → k .answer .outcome ≡ Start.Ready → Settled (k .layout) [] (k .answer .state) (k .work′)
   -- a line that the single-line call takes on what accepted lines left
   pub line : (k : LineCall) (x : Rule) → ruleOf (k .file) ≡ RuleRead.Rule x → (log : List ℕ) (t : Trace)
-      → Left log t (k .state) (k .work) → (v : Verdict) → k .answer .outcome ≡ judged v
-      → Judged (k .file) x (log ++ k .line) (k .answer .state) (k .work′) v
+      → Left (k .layout) log t (k .state) (k .work) → (v : Verdict) → k .answer .outcome ≡ judged v
+      → Judged (k .layout) (k .file) x (log ++ k .line) (k .answer .state) (k .work′) v
   -- the same with a tally: "failing lines rise by 1 exactly at a line whose verdict fails", and the tally of the log
   -- becomes that of the log with the line
   pub tallied : (k : TalliedCall) (x : Rule) → ruleOf (k .file) ≡ RuleRead.Rule x → (log : List ℕ) (t : Trace)
-      → Left log t (k .state) (k .work) → (v : Verdict) → k .answer .outcome ≡ judged v
-      → Judged (k .file) x (log ++ k .line) (k .answer .state) (k .work′) v
+      → Left (k .layout) log t (k .state) (k .work) → (v : Verdict) → k .answer .outcome ≡ judged v
+      → Judged (k .layout) (k .file) x (log ++ k .line) (k .answer .state) (k .work′) v
       × TallyCounts (log ++ k .line) (k .answer .tally) × (k .answer .tally .failing ≡ k .tally .failing + failed v)
       × (k .tally ≡ tallyAfter (k .file) x log t → (u : Trace) → Accepted (log ++ k .line) u
       → k .answer .tally ≡ tallyAfter (k .file) x (log ++ k .line) u)
@@ -68,19 +70,20 @@ pub record Demand2 : Type 0 where
   pub relate : (r : Record) (a b : RunNo) (v : Answer.Related) → Relating r a b v → (log : List ℕ) (t : Trace)
       → Accepted log t → r ≡ recordOf t → (n : ℕ) → (v ≡ RelateAnswer.Relation n) ↔ RelatedAs t (a .0) (b .0) n
   -- the lines of a whole log, and the lines of its report
-  pub log : (k : LogCall) (x : Rule) → ruleOf (k .file) ≡ RuleRead.Rule x → workSize ≤ length (k .work)
+  pub log : (k : LogCall) (x : Rule) → ruleOf (k .file) ≡ RuleRead.Rule x → workSize (k .layout) ≤ length (k .work)
       → maxLines ≤ length (k .verdicts) → Reads k x
   pub report : (k : ReportCall) (n : ℕ) → k .answer ≡ Reported.Length n
       → ((x : Rule) → ruleOf (k .file) ≡ RuleRead.Rule x → TextMeans (k .file) x (k .log) (take n (k .text′)))
       × ((c : ℕ) → ruleOf (k .file) ≡ RuleRead.Refused c → take n (k .text′) ≡ refusedText 0 c)
   -- the whole-log call is the repeated single-line call, its verdicts are those of prefixes, and first bytes decide
-  pub repeats : (file log w out : List ℕ) (x : Rule) → ruleOf file ≡ RuleRead.Rule x
-      → workSize ≤ length w → maxLines ≤ length out
-      → Repeats file (startOf w .0 .state) (startOf w .1) (linesOf log) out (logOf file log w out)
-  pub prefixes : (file w out log part : List ℕ) (n : ℕ) → linesOf part ≡ take (suc n) (linesOf log)
+  pub repeats : (lay : Layout) (file log w out : List ℕ) (x : Rule) → ruleOf file ≡ RuleRead.Rule x
+      → workSize lay ≤ length w → maxLines ≤ length out
+      → Repeats lay file (startOf lay w .0 .state) (startOf lay w .1) (linesOf log) out (logOf lay file log w out)
+  pub prefixes : (lay : Layout) (file w out log part : List ℕ) (n : ℕ) → linesOf part ≡ take (suc n) (linesOf log)
       → n < length (linesOf log) → (u : Trace) → Accepted part u
-      → getD (logOf file log w out .2) n 0 ≡ getD (logOf file part w out .2) n 0
-  pub first-bytes : (file log w out : List ℕ) → logOf file log w out ≡ logOf file (take 8192 log) w out
+      → getD (logOf lay file log w out .2) n 0 ≡ getD (logOf lay file part w out .2) n 0
+  pub first-bytes : (lay : Layout) (file log w out : List ℕ)
+      → logOf lay file log w out ≡ logOf lay file (take 8192 log) w out
   pub first-bytes-report : (file log : List ℕ) → reportText (take 600 file) (take 8192 log) ≡ reportText file log
   -- what accepted logs are: in order, "hence 256 lines"; their lines say what they leave; "accepted lines fill at most
   -- 5,248" bytes; and a log is accepted if none of its lines meets a refusal. Runs are told apart by their numbers. Of

@@ -1,11 +1,13 @@
--- The three demands, the typed rules and the slips, as five statements about every call (`Calls.antt`, `Typed.antt`,
--- `Slips.antt`): of whatever the calls answer and leave by their contracts. That a call ends and does nothing undefined
--- is proved of every function.
+-- The three demands, the typed rules, the slips and the layouts, as six statements about every call (`Calls.antt`,
+-- `Typed.antt`, `Slips.antt`): of whatever the calls answer and leave by their contracts. That a call ends and does
+-- nothing undefined is proved of every function.
 --
 -- The words of this page, and where they are defined:
 --   Accepted log t      no line of log meets a refusal, and its lines leave the trace t   trace/specs/Trace
 --   Orderly t           what the paper says of the ids, runs and lines of a log           trace/specs/Orderly
---   Left log t r w      they leave the record r and the pair bytes of the work area w     reading/specs/Left
+--   Left lay log t r w  they leave the record r and the pair bytes of the work area w,    reading/specs/Left
+--                       in the layout lay
+--   workSize, place, Places, NoPair   a layout's bytes, and the place of two runs in it   pairs/specs/Layout
 --   MetBytes, MetRule   where a line, and a rule file, meets a refusal                    grammar/specs
 --   MetAfter            where a line meets one after other lines                          accepted_logs/specs/MetAfter
 --   Met, MetLog ..      where a call meets one                                            claims/specs/WhereMet
@@ -46,6 +48,7 @@ use Rattle.claims.specs.Demand1.{Demand1}
 use Rattle.claims.specs.Demand2.{Demand2}
 use Rattle.claims.specs.Typed.{TypedRules}
 use Rattle.claims.specs.Slips.{Slips}
+use Rattle.claims.specs.Layouts.{Layouts}
 
 -- "Take any of the 64 × 64 pairs of sets of relations, the empty set included, and any relation. That relation is in
 -- the composition that we report for the pair exactly when some accepted log, of any length, has three different
@@ -70,3 +73,5 @@ pub record Demands : Type 0 where
   pub typed : TypedRules
   -- the runs that make a rule fail
   pub slips : Slips
+  -- the two layouts of a work area: "give the same verdicts, refusals and relations"
+  pub layouts : Layouts

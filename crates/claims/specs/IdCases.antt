@@ -6,8 +6,9 @@ use Rattle.lists.specs.Lists.{bytes}
 use Rattle.labels.specs.Label.{labelNo}
 use Rattle.trace.specs.declared.Run.{Run}
 use Rattle.trace.specs.Trace.{Trace, Answer, next, refused, line, read}
+use Rattle.pairs.specs.declared.Layout.{Layout}
 use Rattle.rules.specs.Cases.{p1File}
-use Rattle.whole_log.specs.Cases.{Long, pairByte1}
+use Rattle.whole_log.specs.Cases.{Long, firstPair}
 use Rattle.report.specs.Text.{reportText}
 
 -- a run without a label, by its id and its lines; and the answer of a log that leaves such runs after n lines
@@ -40,7 +41,7 @@ pub record IdCases : Type 0 where
   pub ended-beside : read (bytes "B 1\nB 2\nE 1\nE 1\n") ≡ refused 17
   pub never-begun : read (bytes "B 1\nE 1\nE 2\n") ≡ refused 16
   -- "the pair relations are now about run numbers": two runs of one id, of which the first is before the second
-  pub noted : (w out : List ℕ) → Long w out → pairByte1 (bytes "B 1\nE 1\nB 1\nE 1\n") w out ≡ 5
+  pub noted : (lay : Layout) (w out : List ℕ) → Long lay w out → firstPair lay (bytes "B 1\nE 1\nB 1\nE 1\n") w out ≡ 5
   -- and so is a rule. In the first log the EVENING of id 1 is over before the TEST of id 1 begins; in the second the
   -- second EVENING of id 1 includes a TEST
   pub kept : reportText p1File (bytes "B 1 EVENING\nE 1\nB 1 TEST\nE 1\nE 1\n")

@@ -3,6 +3,7 @@ pub mod Demand1
 pub mod Demand2
 pub mod Typed
 pub mod Slips
+pub mod Layouts
 pub mod Demands
 pub mod Lessons
 pub mod TypedCases

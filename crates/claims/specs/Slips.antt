@@ -73,7 +73,7 @@ pub record Slips : Type 0 where
       → Of (λ t f s. (v : Verdict) → Says t f v → (verdictByte v ≡ 0) ↔ (a .found ≡ Found.First)) file r
   -- and so after a line that the single-line call takes
   pub line : (k : LineCall) (f : Formula) → RuleFile (k .file) f → SlipForm f → (log : List ℕ) (t : Trace)
-      → Left log t (k .state) (k .work) → (v : Verdict) → k .answer .outcome ≡ judged v
+      → Left (k .layout) log t (k .state) (k .work) → (v : Verdict) → k .answer .outcome ≡ judged v
       → (a : Finding) → FindsFirst (k .file) (k .answer .state) a → (verdictByte v ≡ 0) ↔ (a .found ≡ Found.First)
   pub found-passes : (file : List ℕ) (r : Record) (a : Finding) → FindsFirst file r a → a .found ≡ Found.First
       → (b : Passing) → ReadsSlip file r (a .slip) b → b ≡ Passing.Passes

@@ -6,6 +6,7 @@ use mathlib.Core.Logic.{_↔_}
 use mathlib.Core.List.{List}
 use lib.ListN.{length, take}
 use Rattle.trace.specs.Trace.{Trace, Accepted}
+use Rattle.pairs.specs.declared.Layout.{Layout}
 use Rattle.rules.specs.declared.Rule.{Rule}
 use Rattle.rules.specs.declared.RuleRead.the-variants as RuleRead
 use Rattle.rules.specs.Formula.{Formula}
@@ -100,7 +101,7 @@ pub record Writing (k : WriteCall) (n : ℕ) : Type 0 where
       → Again formula (take n (k .text′)) j
   -- "a rule of equal verdict on every log": with both files the whole-log call answers and leaves the same
   pub same-checks : (j : ReadCall) (m : ℕ) → j .text ≡ take n (k .text′) → j .answer ≡ Length m
-      → (log w out : List ℕ) → logOf (take m (j .rule′)) log w out ≡ logOf (k .file) log w out
+      → (lay : Layout) (log w out : List ℕ) → logOf lay (take m (j .rule′)) log w out ≡ logOf lay (k .file) log w out
 
 pub record TypedRules : Type 0 where
   -- where each call is refused, and that it then leaves its buffer as it was

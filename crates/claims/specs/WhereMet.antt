@@ -8,7 +8,8 @@ use Rattle.lists.specs.Limits.{maxLines}
 use Rattle.trace.specs.declared.Record.{Record}
 use Rattle.trace.specs.Trace.{Trace, Accepted}
 use Rattle.trace.specs.Record.{recordOf, Valid}
-use Rattle.pairs.specs.Grid.{workSize}
+use Rattle.pairs.specs.declared.Layout.{Layout}
+use Rattle.pairs.specs.Layout.{workSize}
 use Rattle.relations.specs.Runs.{FinishedRun}
 use Rattle.reading.specs.Left.{Left, Unknown}
 use Rattle.whole_log.specs.Log.{LineAt}
@@ -23,15 +24,16 @@ abbrev pub Ruled : List ℕ → Type 0
 Ruled file = (c : ℕ) → MetRule file c → ⊥
 
 -- 20, the rule, 21, and then what is met after the lines that leave the record and the work area
-pub data Met (file : List ℕ) (r : Record) (w : List ℕ) (after : Trace → ℕ → Type 0) (c : ℕ) : Type 0 where
+pub data Met (lay : Layout) (file : List ℕ) (r : Record) (w : List ℕ) (after : Trace → ℕ → Type 0) (c : ℕ)
+    : Type 0 where
   -- "20 a lent buffer shorter than stated"
-  short : length w < workSize → c ≡ 20 → Met file r w after c
+  short : length w < workSize lay → c ≡ 20 → Met lay file r w after c
   -- "then the rule from its front": 1 to 10
-  rule : workSize ≤ length w → MetRule file c → Met file r w after c
+  rule : workSize lay ≤ length w → MetRule file c → Met lay file r w after c
   -- "21 no sequence of accepted lines leaves the record handed in, or the pair bytes are not that record's"
-  unknown : workSize ≤ length w → Ruled file → Unknown r w → c ≡ 21 → Met file r w after c
-  then : workSize ≤ length w → Ruled file → (log : List ℕ) (t : Trace) → Left log t r w → after t c
-      → Met file r w after c
+  unknown : workSize lay ≤ length w → Ruled file → Unknown lay r w → c ≡ 21 → Met lay file r w after c
+  then : workSize lay ≤ length w → Ruled file → (log : List ℕ) (t : Trace) → Left lay log t r w → after t c
+      → Met lay file r w after c
 
 -- the counts of a tally are those of the lines that t stands for
 pub record Counts (t : Trace) (y : Tally) : Type 0 where
@@ -48,12 +50,12 @@ pub data MetTally (y : Tally) (line : List ℕ) (t : Trace) (c : ℕ) : Type 0 w
 
 -- ── the whole-log call ──
 -- the call names line n: 0 before any line is read
-pub data MetLog (file log w out : List ℕ) (c n : ℕ) : Type 0 where
-  short-work : length w < workSize → c ≡ 20 → n ≡ 0 → MetLog file log w out c n
-  short-verdicts : length out < maxLines → c ≡ 20 → n ≡ 0 → MetLog file log w out c n
-  log-rule : workSize ≤ length w → maxLines ≤ length out → MetRule file c → n ≡ 0 → MetLog file log w out c n
-  log-line : workSize ≤ length w → maxLines ≤ length out → Ruled file
-      → (f : LineAt log n) → MetAfter (f .trace) (f .line) c → MetLog file log w out c n
+pub data MetLog (lay : Layout) (file log w out : List ℕ) (c n : ℕ) : Type 0 where
+  short-work : length w < workSize lay → c ≡ 20 → n ≡ 0 → MetLog lay file log w out c n
+  short-verdicts : length out < maxLines → c ≡ 20 → n ≡ 0 → MetLog lay file log w out c n
+  log-rule : workSize lay ≤ length w → maxLines ≤ length out → MetRule file c → n ≡ 0 → MetLog lay file log w out c n
+  log-line : workSize lay ≤ length w → maxLines ≤ length out → Ruled file
+      → (f : LineAt log n) → MetAfter (f .trace) (f .line) c → MetLog lay file log w out c n
 
 -- ── the other calls ──
 -- relating runs a and b of a record: "21 (of the record alone), 22, 23"

@@ -3,6 +3,7 @@
 // `check_line_lent` updates the tally where it stands, by `update`; `lend_tally` calls it for a caller that holds a tally by value.
 ghost use mathlib.Core.Path.{_≡_};
 ghost use Rattle.tallies.specs.Tally.{untallied, ChecksTallied, ChecksLent};
+use pairs::Layout;
 use single::Checked;
 use tallies::Tallied;
 use tallies::Tally;
@@ -22,24 +23,32 @@ pub fn update(tally: &mut Tally, a: Tallied) -> Checked
 
 // One line with a tally that is lent: it is updated where it stands, and the answer has the other parts.
 pub fn check_line_lent(
+    layout: Layout,
     file: &[u8],
     r: Record,
     tally: &mut Tally,
     work: &mut [u8],
     line: &[u8],
 ) -> Checked
-    ensures { λ c. ⌜ ChecksLent (now (file .entry)) r (now (tally .entry)) (now (work .entry)) (now (line .entry)) c (now (tally .exit)) (now (work .exit)) ⌝ }
+    ensures { λ c. ⌜ ChecksLent layout (now (file .entry)) r (now (tally .entry)) (now (work .entry)) (now (line .entry)) c (now (tally .exit)) (now (work .exit)) ⌝ }
 {
-    let a = check_line_tallied(file, r, *tally, work, line);
+    let a = check_line_tallied(layout, file, r, *tally, work, line);
     update(tally, a)
 }
 
 // The same for a caller that holds the tally by value: a tally of its own is lent.
-pub fn lend_tally(file: &[u8], r: Record, y: Tally, work: &mut [u8], line: &[u8]) -> Tallied
-    ensures { λ a. ⌜ ChecksTallied (now (file .entry)) r y (now (work .entry)) (now (line .entry)) a (now (work .exit)) ⌝ }
+pub fn lend_tally(
+    layout: Layout,
+    file: &[u8],
+    r: Record,
+    y: Tally,
+    work: &mut [u8],
+    line: &[u8],
+) -> Tallied
+    ensures { λ a. ⌜ ChecksTallied layout (now (file .entry)) r y (now (work .entry)) (now (line .entry)) a (now (work .exit)) ⌝ }
 {
     let mut tally = y;
-    let c = check_line_lent(file, r, &mut tally, work, line);
+    let c = check_line_lent(layout, file, r, &mut tally, work, line);
     Tallied {
         state: c.state,
         tally: tally,

@@ -13,23 +13,24 @@ use Rattle.report.specs.Text.{reportText}
 use Rattle.report.specs.Report.{Result, reportOf, Reports}
 use Rattle.report.proofs.Cut.{first-bytes-decide-report}
 use Rattle.log_check.specs.Printed.{Printed}
-use Rattle.pairs.specs.Grid.{workSize}
+use Rattle.pairs.specs.declared.Layout.the-variants.{Half}
+use Rattle.pairs.specs.Layout.{workSize}
 
 -- the length that an answer names
 abbrev lengthOf : Reported → ℕ
 lengthOf (Length n) = n
 lengthOf (Refused c) = 0
 
-module _ (file log w out text : List ℕ) (long : workSize ≤ length w) (room : 256 ≤ length out) (space : 2048 ≤ length text) where
+module _ (file log w out text : List ℕ) (long : workSize Half ≤ length w) (room : 256 ≤ length out) (space : 2048 ≤ length text) where
   abbrev R : List ℕ
   R = reportText file log
 
-  written : reportOf file log w out text ≡ (Length (length R), logOf file log w out .1, logOf file log w out .2, R ++ drop (length R) text)
+  written : reportOf Half file log w out text ≡ (Length (length R), logOf Half file log w out .1, logOf Half file log w out .2, R ++ drop (length R) text)
   unfolding reportOf
-  written = simp (le-ltb (length w) workSize long, le-ltb (length out) 256 room, le-ltb (length text) 2048 space)
+  written = simp (le-ltb (length w) (workSize Half) long, le-ltb (length out) 256 room, le-ltb (length text) 2048 space)
 
-  module _ (a : Reported) (w′ out′ text′ : List ℕ) (r : Reports file log w out text a w′ out′ text′) where
-    all : _≡_ {A = Result} (a, w′, out′, text′) (Length (length R), logOf file log w out .1, logOf file log w out .2, R ++ drop (length R) text)
+  module _ (a : Reported) (w′ out′ text′ : List ℕ) (r : Reports Half file log w out text a w′ out′ text′) where
+    all : _≡_ {A = Result} (a, w′, out′, text′) (Length (length R), logOf Half file log w out .1, logOf Half file log w out .2, R ++ drop (length R) text)
     all = r .answer ∙ written
 
     pub prints : (n : ℕ) → a ≡ Length n → Printed file log text′ n

@@ -1,7 +1,8 @@
 // The check program: holds the log on standard input against the rule in the file rule.rul, and writes the report.
 //
 // A rule file that can't be opened counts as no bytes. A read or a write that fails is said on standard error, and after a failed read
-// no report is written. Arguments are ignored. What the report says is the work of the crate `report`.
+// no report is written. Arguments are ignored. What the report says is the work of the crate `report`. The work area has the half layout,
+// which is the faster one (docs/PERFORMANCE.md); what is printed is the same in either.
 ghost use Prim.Native.Nat.{_≤_};
 ghost use mathlib.Core.Path.{_≡_};
 ghost use lib.ListN.{length, take};
@@ -10,12 +11,14 @@ ghost use Rattle.lists.specs.Limits.{maxLines};
 ghost use Rattle.report.specs.Report.{reportSize};
 ghost use Rattle.input.specs.Filled.{Fills};
 ghost use Rattle.log_check.specs.Printed.{ruleRoom, logRoom, Printed, Prints};
-ghost use Rattle.pairs.specs.Grid.{workSize};
+ghost use Rattle.pairs.specs.declared.Layout.the-variants.{Half};
+ghost use Rattle.pairs.specs.Layout.{workSize};
 use input::Filled;
 use libc::STDIN_FILENO;
 use libc::STDOUT_FILENO;
 use lists::MAX_LINES;
-use pairs::PAIR_BYTES;
+use pairs::HALF_BYTES;
+use pairs::Layout;
 use report::REPORT_BYTES;
 use report::Reported;
 
@@ -53,10 +56,10 @@ fn make_report(
     verdicts: &mut [u8],
     text: &mut [u8],
 ) -> usize
-    requires { ⌜ (workSize ≤ length (now work)) × (maxLines ≤ length (now verdicts)) × (reportSize ≤ length (now text)) ⌝ }
+    requires { ⌜ (workSize Half ≤ length (now work)) × (maxLines ≤ length (now verdicts)) × (reportSize ≤ length (now text)) ⌝ }
     ensures { λ n. ⌜ Printed (now (rule .entry)) (now (log .entry)) (now (text .exit)) n ⌝ }
 {
-    let answer = report::report(rule, log, work, verdicts, text);
+    let answer = report::report(Layout::Half, rule, log, work, verdicts, text);
     match answer {
         Reported::Length(n) => return n,
         // The buffers are long enough, so this does not occur.
@@ -75,7 +78,7 @@ fn text_of(
     verdicts: &mut [u8],
     text: &mut [u8],
 ) -> usize
-    requires { ⌜ (workSize ≤ length (now work)) × (maxLines ≤ length (now verdicts)) × (reportSize ≤ length (now text)) ⌝ }
+    requires { ⌜ (workSize Half ≤ length (now work)) × (maxLines ≤ length (now verdicts)) × (reportSize ≤ length (now text)) ⌝ }
     requires { ⌜ Fills r (now rule) × Fills l (now log) ⌝ }
     ensures { λ n. ⌜ Counts n (now (text .exit)) × Prints r (now (rule .entry)) l (now (log .entry)) (take n (now (text .exit))) ⌝ }
 {
@@ -102,7 +105,7 @@ fn hand_on(rule: &[u8], r: Filled, log: &[u8], l: Filled, text: &[u8])
 fn print(rule: &[u8], r: Filled, log: &[u8], l: Filled)
     requires { ⌜ Fills r (now rule) × Fills l (now log) ⌝ }
 {
-    let mut work = [0u8; PAIR_BYTES];
+    let mut work = [0u8; HALF_BYTES];
     let mut verdicts = [0u8; MAX_LINES];
     let mut text = [0u8; REPORT_BYTES];
     let size = text_of(rule, r, log, l, &mut work, &mut verdicts, &mut text);

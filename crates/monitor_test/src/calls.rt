@@ -3,10 +3,11 @@ use super::answers;
 use super::handed;
 use lines::Next;
 use monitor::Tallied;
+use pairs::Layout;
 
 // The call on a line without a tally, which stays.
-fn plain(s: Tallied, file: &[u8], work: &mut [u8], line: &[u8]) -> Tallied {
-    let c = monitor::check_line(file, s.state, work, line);
+fn plain(l: Layout, s: Tallied, file: &[u8], work: &mut [u8], line: &[u8]) -> Tallied {
+    let c = monitor::check_line(l, file, s.state, work, line);
     let q = c.state;
     let o = c.outcome;
     let y = s.tally;
@@ -18,19 +19,19 @@ fn plain(s: Tallied, file: &[u8], work: &mut [u8], line: &[u8]) -> Tallied {
 }
 
 // The call on a line that a kind stands for.
-fn call(s: Tallied, kind: u8, file: &[u8], work: &mut [u8], line: &[u8]) -> Tallied {
+fn call(l: Layout, s: Tallied, kind: u8, file: &[u8], work: &mut [u8], line: &[u8]) -> Tallied {
     if kind == b'T' {
-        return monitor::check_line_tallied(file, s.state, s.tally, work, line);
+        return monitor::check_line_tallied(l, file, s.state, s.tally, work, line);
     }
     if kind == b'L' {
-        return monitor::lend_tally(file, s.state, s.tally, work, line);
+        return monitor::lend_tally(l, file, s.state, s.tally, work, line);
     }
-    plain(s, file, work, line)
+    plain(l, s, file, work, line)
 }
 
 // One line: the answer is written, and what is handed back is handed on.
-fn one_line(s: Tallied, kind: u8, file: &[u8], work: &mut [u8], line: &[u8]) -> Tallied {
-    let a = call(s, kind, file, work, line);
+fn one_line(l: Layout, s: Tallied, kind: u8, file: &[u8], work: &mut [u8], line: &[u8]) -> Tallied {
+    let a = call(l, s, kind, file, work, line);
     if kind != b'q' {
         answers::line(kind, a, work);
         test_text::write(b"\n");
@@ -39,10 +40,10 @@ fn one_line(s: Tallied, kind: u8, file: &[u8], work: &mut [u8], line: &[u8]) -> 
 }
 
 // The same, and whether the record and the work area are as they were.
-fn compared(s: Tallied, file: &[u8], work: &mut [u8], line: &[u8]) -> Tallied {
+fn compared(l: Layout, s: Tallied, file: &[u8], work: &mut [u8], line: &[u8]) -> Tallied {
     let mut before = [0u8; 16400];
     answers::copy(work, &mut before);
-    let a = plain(s, file, work, line);
+    let a = plain(l, s, file, work, line);
     answers::line(b'D', a, work);
     answers::kept(s.state, a.state, &before, work);
     a
@@ -50,6 +51,7 @@ fn compared(s: Tallied, file: &[u8], work: &mut [u8], line: &[u8]) -> Tallied {
 
 // The line that stands in a log from start to before end.
 fn part(
+    l: Layout,
     s: Tallied,
     kind: u8,
     file: &[u8],
@@ -60,30 +62,38 @@ fn part(
 ) -> Tallied {
     if start <= end {
         if end <= log.len() {
-            return one_line(s, kind, file, work, &log[start..end]);
+            return one_line(l, s, kind, file, work, &log[start..end]);
         }
     }
     s
 }
 
 // What a reader hands out.
-fn next(s: Tallied, kind: u8, file: &[u8], work: &mut [u8], log: &[u8], n: Next) -> Tallied {
+fn next(
+    l: Layout,
+    s: Tallied,
+    kind: u8,
+    file: &[u8],
+    work: &mut [u8],
+    log: &[u8],
+    n: Next,
+) -> Tallied {
     match n {
-        Next::Line { start, end } => part(s, kind, file, work, log, start, end),
+        Next::Line { start, end } => part(l, s, kind, file, work, log, start, end),
         Next::Refused(_) => s,
         Next::Done => s,
     }
 }
 
 // The lines of a log, at most 256, as a reader hands them out.
-fn each_line(s: Tallied, kind: u8, file: &[u8], work: &mut [u8], log: &[u8]) -> Tallied {
+fn each_line(l: Layout, s: Tallied, kind: u8, file: &[u8], work: &mut [u8], log: &[u8]) -> Tallied {
     let mut q = s;
     let mut place: usize = 0;
     let mut left: usize = 256;
     while 0 < left {
         let a = lines::line_from(log, place);
         let n = a.next;
-        q = next(q, kind, file, work, log, n);
+        q = next(l, q, kind, file, work, log, n);
         place = a.place;
         left -= 1;
     }
@@ -91,27 +101,27 @@ fn each_line(s: Tallied, kind: u8, file: &[u8], work: &mut [u8], log: &[u8]) -> 
 }
 
 // A whole log: the answer is written.
-fn whole_in(file: &[u8], log: &[u8], work: &mut [u8], bytes: &mut [u8]) {
-    let a = monitor::check_log(file, log, work, bytes);
+fn whole_in(l: Layout, file: &[u8], log: &[u8], work: &mut [u8], bytes: &mut [u8]) {
+    let a = monitor::check_log(l, file, log, work, bytes);
     answers::log(a, work, bytes);
 }
 
 // The same in a work area of w bytes and a verdict buffer of v bytes.
-fn whole(file: &[u8], log: &[u8], w: usize, v: usize) {
+fn whole(l: Layout, file: &[u8], log: &[u8], w: usize, v: usize) {
     let mut area = [7u8; 16400];
     let mut bytes = [9u8; 260];
     if w <= 16400 {
         if v <= 260 {
-            whole_in(file, log, &mut area[0..w], &mut bytes[0..v]);
+            whole_in(l, file, log, &mut area[0..w], &mut bytes[0..v]);
         }
     }
 }
 
 // A whole log: the record and the work area are handed on.
-fn kept(s: Tallied, file: &[u8], log: &[u8], work: &mut [u8]) -> Tallied {
+fn kept(l: Layout, s: Tallied, file: &[u8], log: &[u8], work: &mut [u8]) -> Tallied {
     let mut bytes = [9u8; 260];
     test_text::fill(work, 7);
-    let a = monitor::check_log(file, log, work, &mut bytes);
+    let a = monitor::check_log(l, file, log, work, &mut bytes);
     let mut q = s;
     let r = a.state;
     q.state = r;
@@ -130,34 +140,50 @@ fn call_of(kind: u8) -> u8 {
     }
 }
 
-fn called(s: Tallied, kind: u8, log: &[u8], file: &[u8], work: &mut [u8], v: usize) -> Tallied {
+fn called(
+    l: Layout,
+    s: Tallied,
+    kind: u8,
+    log: &[u8],
+    file: &[u8],
+    work: &mut [u8],
+    v: usize,
+) -> Tallied {
     let k = call_of(kind);
     if k == 1 {
-        return one_line(s, kind, file, work, log);
+        return one_line(l, s, kind, file, work, log);
     }
     if k == 2 {
-        return compared(s, file, work, log);
+        return compared(l, s, file, work, log);
     }
     if k == 3 {
-        return each_line(s, kind, file, work, log);
+        return each_line(l, s, kind, file, work, log);
     }
     if k == 5 {
-        return kept(s, file, log, work);
+        return kept(l, s, file, log, work);
     }
-    whole(file, log, work.len(), v);
+    whole(l, file, log, work.len(), v);
     s
 }
 
 // What a case leaves.
-pub fn case(s: Tallied, kind: u8, text: &[u8], file: &[u8], work: &mut [u8], v: usize) -> Tallied {
+pub fn case(
+    l: Layout,
+    s: Tallied,
+    kind: u8,
+    text: &[u8],
+    file: &[u8],
+    work: &mut [u8],
+    v: usize,
+) -> Tallied {
     if kind == b'=' {
         test_text::write_line(text);
         return s;
     }
     if call_of(kind) == 0 {
-        return handed::set(s, kind, text, work);
+        return handed::set(l, s, kind, text, work);
     }
     let mut log = [0u8; 2048];
     let n = test_cases::bytes(text, &mut log);
-    called(s, kind, &log[..n], file, work, v)
+    called(l, s, kind, &log[..n], file, work, v)
 }

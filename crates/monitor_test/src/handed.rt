@@ -2,10 +2,12 @@
 use monitor::Outcome;
 use monitor::Tallied;
 use monitor::Tally;
+use pairs::Layout;
 use trace::Record;
 
-// How many bytes of the rule file, the work area and the verdict buffer are in use.
+// The layout, and how many bytes of the rule file, the work area and the verdict buffer are in use.
 pub struct Sizes {
+    pub layout: usize,
     pub rule: usize,
     pub work: usize,
     pub verdicts: usize,
@@ -17,7 +19,12 @@ pub struct State {
     pub sizes: Sizes,
 }
 
-// The sizes after a case that gives the rule, the verdict buffer or the work area, or changes a byte of it.
+// The layout of a number.
+pub fn layout(n: usize) -> Layout {
+    if n == 0 { Layout::Square } else { Layout::Half }
+}
+
+// The sizes after a case that gives the layout, the rule, the verdict buffer or the work area, or changes a byte of it.
 pub fn sized(z: Sizes, kind: u8, text: &[u8], file: &mut [u8], area: &mut [u8]) -> Sizes {
     let mut q = z;
     if kind == b'r' {
@@ -39,6 +46,10 @@ pub fn sized(z: Sizes, kind: u8, text: &[u8], file: &mut [u8], area: &mut [u8]) 
     }
     if kind == b'v' {
         q.verdicts = n;
+        return q;
+    }
+    if kind == b'y' {
+        q.layout = n;
     }
     q
 }
@@ -63,6 +74,7 @@ pub fn nothing() -> State {
         outcome: Outcome::Holds,
     };
     let sizes = Sizes {
+        layout: 0,
         rule: 0,
         work: 16400,
         verdicts: 260,
@@ -71,9 +83,9 @@ pub fn nothing() -> State {
 }
 
 // The record that a case gives.
-fn record(r: Record, kind: u8, text: &[u8], work: &mut [u8]) -> Record {
+fn record(l: Layout, r: Record, kind: u8, text: &[u8], work: &mut [u8]) -> Record {
     if kind == b's' {
-        let a = pairs::start_record(work);
+        let a = pairs::start_record(l, work);
         return a.state;
     }
     if kind == b'z' {
@@ -83,14 +95,14 @@ fn record(r: Record, kind: u8, text: &[u8], work: &mut [u8]) -> Record {
 }
 
 // The record and the tally that a case gives.
-pub fn set(s: Tallied, kind: u8, text: &[u8], work: &mut [u8]) -> Tallied {
+pub fn set(l: Layout, s: Tallied, kind: u8, text: &[u8], work: &mut [u8]) -> Tallied {
     let mut q = s;
     if kind == b't' {
         let y = tally(text);
         q.tally = y;
         return q;
     }
-    let r = record(s.state, kind, text, work);
+    let r = record(l, s.state, kind, text, work);
     q.state = r;
     q
 }

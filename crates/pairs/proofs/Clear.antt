@@ -1,14 +1,17 @@
 -- A buffer whose first bytes are cleared one by one.
-use Prim.Native.Nat.{ℕ, suc, _+_, _/_, _%_, _<_}
+use Prim.Native.Nat.{ℕ, suc, _+_, _<_}
 use mathlib.Core.Path.{_≡_, ap, sym, _∙_}
 use mathlib.Core.List.{List, [], _∷_, _++_, append-assoc}
 use native.Mathlib.Omega.{arith}
 use native.Mathlib.Numerals.{add-one}
 use lib.ListN.{length, getD, set, drop, replicate, length-replicate, getD-replicate, replicate-append-replicate}
 use lib.Seq.{drop-cons, set-at}
-use Rattle.pairs.specs.Grid.{grid}
+use Rattle.trace.specs.Trace.{noTrace}
+use Rattle.pairs.specs.declared.Layout.{Layout}
+use Rattle.pairs.specs.Layout.{workSize, place, areaOf}
 use Rattle.pairs.specs.Pairs.{pairByte, workOf}
-use Rattle.pairs.proofs.Grid.{is-grid}
+use Rattle.pairs.proofs.Places.{places}
+use Rattle.pairs.proofs.Area.{only-area}
 use Rattle.pairs.proofs.Pairs.{pair-late}
 
 pub clear-next : (w w₀ : List ℕ) (k : ℕ) → k < length w₀ → w ≡ replicate k 0 ++ drop k w₀ → set w k 0 ≡ replicate (k + 1) 0 ++ drop (k + 1) w₀
@@ -18,10 +21,14 @@ clear-next w w₀ k h e =
     ∙ (sym (append-assoc (replicate k 0) (0 ∷ []) (drop (suc k) w₀))
     ∙ (λ i. replicate-append-replicate k 1 0 i ++ drop (sym (add-one k) i) w₀)))
 
--- 16,384 zeros are the pair bytes of no runs
-pub clear-all : (w w₀ : List ℕ) (k : ℕ) → k ≡ 16384 → w ≡ replicate k 0 ++ drop k w₀ → w ≡ workOf [] w₀
-clear-all w w₀ k e h =
-    let zeros : replicate k 0 ≡ grid (pairByte []) =
-    is-grid (pairByte []) (replicate k 0) (length-replicate k 0 ∙ e)
-    (λ j l. getD-replicate k j 0 0 (omega arith) ∙ sym (pair-late [] (j / 128) (j % 128) (omega arith))) in
+-- as many zeros as the layout has bytes are the pair bytes of no runs
+pub clear-all : (lay : Layout) (w w₀ : List ℕ) (k : ℕ) → k ≡ workSize lay → w ≡ replicate k 0 ++ drop k w₀ → w ≡ workOf lay noTrace w₀
+clear-all lay w w₀ k e h =
+    let zeros : replicate k 0 ≡ areaOf (workSize lay) (place lay) (pairByte []) =
+    only-area (workSize lay) (place lay) (pairByte []) (replicate k 0)
+    (record {
+      size = length-replicate k 0 ∙ e;
+      pairs = λ a b i j. getD-replicate k (place lay a b) 0 0 (omega (arith, places lay .low a b i j)) ∙ sym (pair-late [] a b (omega arith));
+      others = λ j l _. getD-replicate k j 0 0 (omega arith);
+    }) in
     h ∙ (λ i. zeros i ++ drop (e i) w₀)

@@ -1,7 +1,10 @@
-pub mod Grid
+pub mod Places
+pub mod Area
+pub mod Stored
 pub mod Pairs
+pub mod Work
+pub mod Walks
 pub mod Clear
-pub mod Stores
 pub mod Refreshed
 pub mod Filled
 pub mod Match

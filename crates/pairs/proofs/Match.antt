@@ -1,19 +1,19 @@
--- Comparing a work area with the pair bytes of runs, byte by byte.
-use Prim.Native.Nat.{ℕ, _+_, _*_, _≤_}
-use mathlib.Core.Path.{_≡_, ap, sym, _∙_}
+-- Comparing a work area with the pair bytes of a record, byte by byte.
+use Prim.Native.Nat.{ℕ, _+_, _≤_}
+use mathlib.Core.Path.{_≡_, refl, ap, sym, _∙_}
 use mathlib.Core.Bool.{Bool, false}
 use mathlib.Core.List.{List}
 use native.Mathlib.Omega.{arith}
-use lib.ListN.{length, getD, drop, List·getD-append}
+use lib.ListN.{length, getD}
 use Rattle.lists.specs.Tells.{Tells}
 use Rattle.lists.proofs.Cases.{either-eq}
 use Rattle.lists.proofs.Tells.{tell-no, tell-by}
-use Rattle.trace.specs.declared.Run.{Run}
-use Rattle.pairs.specs.Grid.{grid, workSize}
-use Rattle.lists.specs.Limits.{maxRuns}
+use Rattle.trace.specs.Trace.{Trace}
+use Rattle.pairs.specs.declared.Layout.{Layout}
+use Rattle.pairs.specs.Layout.{workSize, place}
 use Rattle.pairs.specs.Pairs.{pairByte, workOf}
 use Rattle.pairs.specs.Code.{SameTo}
-use Rattle.pairs.proofs.Grid.{length-grid, getD-gridIn, is-gridIn}
+use Rattle.pairs.proofs.Area.{getD-areaIn, front-areaIn}
 
 -- ── one byte more ──
 module _ (k : ℕ) (w v : List ℕ) where
@@ -28,19 +28,18 @@ module _ (k : ℕ) (w v : List ℕ) where
       (λ z j p. z j (omega arith)))
 
 -- ── all of them ──
-module _ (rs : List Run) (w u v : List ℕ) (long : workSize ≤ length w) (right : v ≡ workOf rs u) where
-  same-bytes : SameTo workSize w v → w ≡ workOf rs w
+module _ (lay : Layout) (t : Trace) (w u v : List ℕ) (long : workSize lay ≤ length w) (right : v ≡ workOf lay t u) where
+  same-bytes : SameTo (workSize lay) w v → w ≡ workOf lay t w
   same-bytes s =
-      is-gridIn (pairByte rs) w long
-      (λ a ha b hb. s (maxRuns * a + b) (omega arith)
-      ∙ (ap (λ (l : List ℕ). getD l (maxRuns * a + b) 0) right ∙ getD-gridIn (pairByte rs) u a b ha hb))
+      front-areaIn (workSize lay) (place lay) (pairByte (t .runs)) w w (omega arith)
+      (λ k h. s k h ∙ (ap (λ (x : List ℕ). getD x k 0) right ∙ getD-areaIn (workSize lay) (place lay) (pairByte (t .runs)) u k h))
+      (λ k _. refl)
 
-  bytes-same : w ≡ workOf rs w → SameTo workSize w v
+  bytes-same : w ≡ workOf lay t w → SameTo (workSize lay) w v
   bytes-same e k h =
-      ap (λ (l : List ℕ). getD l k 0) e
-      ∙ (List·getD-append (grid (pairByte rs)) (drop workSize w) 0 k (omega (arith, length-grid (pairByte rs)))
-      ∙ sym (ap (λ (l : List ℕ). getD l k 0) right
-      ∙ List·getD-append (grid (pairByte rs)) (drop workSize u) 0 k (omega (arith, length-grid (pairByte rs)))))
+      ap (λ (x : List ℕ). getD x k 0) e
+      ∙ (getD-areaIn (workSize lay) (place lay) (pairByte (t .runs)) w k h
+      ∙ sym (ap (λ (x : List ℕ). getD x k 0) right ∙ getD-areaIn (workSize lay) (place lay) (pairByte (t .runs)) u k h))
 
-  pub matches : (b : Bool) → Tells b (SameTo workSize w v) → Tells b (w ≡ workOf rs w)
-  matches b = tell-by same-bytes bytes-same
+  pub matches : (n : ℕ) → n ≡ workSize lay → (b : Bool) → Tells b (SameTo n w v) → Tells b (w ≡ workOf lay t w)
+  matches n e b = rw e (tell-by same-bytes bytes-same)

@@ -1,6 +1,6 @@
 -- A pair's byte by its cases, and the bytes of a table's runs.
 use Prim.Native.Nat.{ℕ, _<_, _≤_}
-use mathlib.Core.Path.{_≡_, sym, _∙_}
+use mathlib.Core.Path.{_≡_, ap, sym, _∙_}
 use mathlib.Core.Bool.{cond}
 use mathlib.Core.List.{List}
 use native.Mathlib.Omega.{arith}
@@ -8,14 +8,16 @@ use lib.Dec.{eqb, ltb}
 use lib.ListN.{length, getD}
 use lib.Seq.{length-take-le, getD-take}
 use borrow.Author.Tests.{eq-eqb, ne-eqb, lt-ltb, le-ltb}
-use Rattle.lists.specs.Lists.{pad}
-use Rattle.lists.proofs.Cases.{either-lt}
+use Rattle.lists.proofs.Cases.{either-bool, either-lt}
 use Rattle.lists.proofs.Lists.{take-pad}
+use Rattle.labels.specs.Label.{noLabel}
 use Rattle.trace.specs.declared.Run.{Run}
 use Rattle.trace.specs.declared.RunTable.{RunTable}
-use Rattle.trace.specs.Trace.{beginLine, endLine, noRun}
+use Rattle.trace.specs.declared.Record.{Record}
+use Rattle.trace.specs.Trace.{Trace, beginLine, endLine, noRun, open?}
+use Rattle.trace.specs.Record.{recordOf}
 use Rattle.trace.specs.Steps.{held}
-use Rattle.pairs.specs.Pairs.{pairSet, pairByte}
+use Rattle.pairs.specs.Pairs.{pairSet, pairByte, heldTrace}
 use Rattle.pairs.specs.Code.{linesSet}
 
 -- ── the set of two runs ──
@@ -47,6 +49,18 @@ module _ (x y : Run) where
   pub set-7 : (endLine x ≡ 0 → ⊥) → beginLine y ≤ endLine x → (endLine y ≡ 0 → ⊥) → endLine y ≤ endLine x → 7 ≡ pairSet x y
   unfolding pairSet
   set-7 p l q m = simp (ne-eqb _ _ p, le-ltb _ _ l, ne-eqb _ _ q, le-ltb _ _ m)
+
+  -- it is never 0
+  pub set-some : 1 ≤ pairSet x y
+  unfolding pairSet
+  set-some =
+      either-bool (open? x)
+      (λ a. simp a (either-bool (open? y) (λ b. simp b (omega arith)) (λ b. simp b (omega arith))))
+      (λ a. either-bool (ltb (endLine x) (beginLine y))
+      (λ l. simp (a, l) (either-bool (open? y) (λ b. simp b (omega arith)) (λ b. simp b (omega arith))))
+      (λ l. simp (a, l) (either-bool (open? y)
+      (λ b. simp b (omega arith))
+      (λ b. simp b (either-bool (ltb (endLine x) (endLine y)) (λ m. simp m (omega arith)) (λ m. simp m (omega arith)))))))
 
   -- a byte looks at one end line, and at both lines of the run that begins later
   pub by-lines : (b : ℕ) → b ≡ linesSet (endLine x) (beginLine y) (endLine y) → b ≡ pairSet x y
@@ -89,6 +103,8 @@ module _ (t : RunTable) (full : length (t .list) ≡ 128) (fits : t .count ≤ 1
       let q : getD (held t) b noRun ≡ getD (t .list) b noRun = getD-take (t .count) (t .list) b noRun k in
       e ∙ sym (pair-in (held t) a b h (omega (arith, length-held)) ∙ (λ i. pairSet (p i) (q i)))
 
--- the table of a list of runs holds them
-pub held-of : (rs : List Run) → held (record { list = pad noRun 128 rs; count = length rs }) ≡ rs
-held-of rs = take-pad noRun 128 rs
+-- the record of a trace holds it
+pub held-trace : (r : Record) (t : Trace) → r ≡ recordOf t → heldTrace r ≡ t
+unfolding recordOf
+held-trace r t e =
+    ap heldTrace e ∙ (λ i. record { runs = take-pad noRun 128 (t .runs) i; labels = take-pad noLabel 64 (t .labels) i; lines = t .lines })

@@ -1,8 +1,10 @@
--- How the code works: the stores one by one, and a comparison byte by byte. Of what a public call promises, only `answer` of `Refreshes` cites it.
-use Prim.Native.Nat.{ℕ, zero, suc, _+_, _*_, _-_, _<_}
+-- How the code works: bytes that are stored one by one, and a comparison byte by byte. Of what a public call promises, only
+-- `stored` of `Refreshes` cites it.
+use Prim.Native.Nat.{ℕ, _<_, _≤_}
 use mathlib.Core.Path.{_≡_}
+use mathlib.Core.Logic.{_⊎_}
 use mathlib.Core.List.{List}
-use lib.ListN.{getD, set}
+use lib.ListN.{length, getD}
 use Rattle.labels.specs.Label.{labelNo}
 use Rattle.trace.specs.declared.Run.{Run}
 use Rattle.trace.specs.Trace.{line}
@@ -17,25 +19,24 @@ placed b e = record { id = 0; begin = line b; end = line e; label = labelNo 0 }
 abbrev pub linesSet : ℕ → ℕ → ℕ → ℕ
 linesSet e b f = pairSet (placed 0 e) (placed b f)
 
--- ── stores, each from f ──
--- the first k bytes of column z
-unfoldable pub downColumn : (ℕ → ℕ → ℕ) → ℕ → ℕ → List ℕ → List ℕ
-downColumn f z zero w = w
-downColumn f z (suc k) w = set (downColumn f z k w) (maxRuns * k + z) (f k z)
+-- ── stores ──
+-- The area w becomes v: the byte of each two runs that are chosen stands at their place, and every other byte is as it was.
+pub record Stored (spot f : ℕ → ℕ → ℕ) (Chosen : ℕ → ℕ → Type 0) (w v : List ℕ) : Type 0 where
+  pub size : length v ≡ length w
+  pub pairs : (a b : ℕ) → a < b → b < maxRuns → Chosen a b → getD v (spot a b) 0 ≡ f a b
+  pub others : (k : ℕ) → ((a b : ℕ) → a < b → b < maxRuns → Chosen a b → spot a b ≡ k → ⊥) → getD v k 0 ≡ getD w k 0
 
--- k bytes of row z behind its own place
-unfoldable pub alongRow : (ℕ → ℕ → ℕ) → ℕ → ℕ → List ℕ → List ℕ
-alongRow f z zero w = w
-alongRow f z (suc k) w = set (alongRow f z k w) (maxRuns * z + (z + 1 + k)) (f z (z + 1 + k))
+-- the runs from s to below e, each with those of the first n that begin after it
+abbrev pub Rows : ℕ → ℕ → ℕ → ℕ → ℕ → Type 0
+Rows s e n a b = (s ≤ a) × (a < e) × (b < n)
 
--- k such rows from row z on, each up to the last of the first n runs
-unfoldable pub alongRows : (ℕ → ℕ → ℕ) → ℕ → ℕ → ℕ → List ℕ → List ℕ
-alongRows f n z zero w = w
-alongRows f n z (suc k) w = alongRow f (z + k) (n - (z + k + 1)) (alongRows f n z k w)
+-- the runs from s to below e, each with those that begin before it
+abbrev pub Columns : ℕ → ℕ → ℕ → ℕ → Type 0
+Columns s e a b = (s ≤ b) × (b < e)
 
--- the bytes of run z with each other of the first n runs
-abbrev pub refreshCells : (ℕ → ℕ → ℕ) → ℕ → ℕ → List ℕ → List ℕ
-refreshCells f n z w = alongRow f z (n - (z + 1)) (downColumn f z z w)
+-- run z with each other of the first n
+abbrev pub OfRun : ℕ → ℕ → ℕ → ℕ → Type 0
+OfRun z n a b = ((a ≡ z) ⊎ (b ≡ z)) × (b < n)
 
 -- ── a comparison ──
 -- the first e bytes of two areas are the same

@@ -1,4 +1,4 @@
-pub mod Grid
+pub mod Layout
 pub mod Pairs
 pub mod Word
 pub mod Code

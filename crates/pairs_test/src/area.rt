@@ -1,6 +1,7 @@
 // A work area: what stands in it, and its pair bytes brought up to date and compared.
+use pairs::Layout;
+use trace::Record;
 use trace::RunNo;
-use trace::RunTable;
 
 // The length of the area after a case; a new one holds 7s.
 pub fn sized(n: usize, kind: u8, text: &[u8], work: &mut [u8]) -> usize {
@@ -15,6 +16,17 @@ pub fn sized(n: usize, kind: u8, text: &[u8], work: &mut [u8]) -> usize {
         }
     }
     n
+}
+
+// The layout after a case.
+pub fn layout(l: Layout, kind: u8, text: &[u8]) -> Layout {
+    if kind == b'y' {
+        if test_cases::size(text, 0) == 0 {
+            return Layout::Square;
+        }
+        return Layout::Half;
+    }
+    l
 }
 
 // The byte at a place, 256 past the end.
@@ -45,23 +57,25 @@ pub fn show(text: &[u8], lines: u64, work: &[u8]) {
 }
 
 // Brings the bytes of run k up to date.
-pub fn refresh(runs: RunTable, k: RunNo, work: &mut [u8]) {
-    let n = runs.count;
+pub fn refresh(l: Layout, r: Record, k: RunNo, work: &mut [u8]) {
+    let n = r.runs.count;
+    let end = pairs::work_bytes(l);
     if (k.0 as usize) < n {
         if n <= 128 {
-            if 16384 <= work.len() {
-                pairs::refresh_run(runs, k, work);
+            if end <= work.len() {
+                pairs::refresh_run(l, r, k, work);
             }
         }
     }
 }
 
-// Ends a line with whether the area has the pair bytes of the runs.
-pub fn show_match(runs: RunTable, work: &[u8]) {
-    let n = runs.count;
+// Ends a line with whether the area has the pair bytes of the record.
+pub fn show_match(l: Layout, r: Record, work: &[u8]) {
+    let n = r.runs.count;
+    let end = pairs::work_bytes(l);
     if n <= 128 {
-        if 16384 <= work.len() {
-            test_text::write_answer(pairs::pairs_match(runs, work));
+        if end <= work.len() {
+            test_text::write_answer(pairs::pairs_match(l, r, work));
         }
     }
 }

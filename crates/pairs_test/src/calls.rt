@@ -1,8 +1,8 @@
 // Lines that are taken, and what they leave.
 use super::area;
+use pairs::Layout;
 use pairs::Start;
 use trace::Record;
-use trace::RunTable;
 use trace::StepOutcome;
 
 // Writes how a record starts.
@@ -14,8 +14,8 @@ fn show_start(o: Start) {
 }
 
 // The record that is started in a work area.
-fn started(kind: u8, work: &mut [u8]) -> Record {
-    let a = pairs::start_record(work);
+fn started(l: Layout, kind: u8, work: &mut [u8]) -> Record {
+    let a = pairs::start_record(l, work);
     let o = a.outcome;
     if kind == b's' {
         show_start(o);
@@ -24,9 +24,9 @@ fn started(kind: u8, work: &mut [u8]) -> Record {
 }
 
 // Brings the area up to date after a line that is taken, or writes the refusal.
-fn update(runs: RunTable, o: StepOutcome, work: &mut [u8]) {
+fn update(l: Layout, r: Record, o: StepOutcome, work: &mut [u8]) {
     match o {
-        StepOutcome::Taken(k) => area::refresh(runs, k, work),
+        StepOutcome::Taken(k) => area::refresh(l, r, k, work),
         StepOutcome::Refused(code) => {
             test_text::write_refusal(code);
             test_text::write(b"\n");
@@ -35,21 +35,21 @@ fn update(runs: RunTable, o: StepOutcome, work: &mut [u8]) {
 }
 
 // The record after a line.
-fn taken(r: Record, text: &[u8], work: &mut [u8]) -> Record {
+fn taken(l: Layout, r: Record, text: &[u8], work: &mut [u8]) -> Record {
     let mut line = [0u8; 48];
     let n = test_cases::bytes(text, &mut line);
     let a = test_steps::take_line(r, &line[..n]);
     let q = a.state;
     let o = a.outcome;
-    update(q.runs, o, work);
+    update(l, q, o, work);
     q
 }
 
 // The cases that only write.
-fn show(r: Record, kind: u8, text: &[u8], work: &[u8]) {
+fn show(l: Layout, r: Record, kind: u8, text: &[u8], work: &[u8]) {
     area::show(text, r.lines.0 as u64, work);
     if kind == b'm' {
-        area::show_match(r.runs, work);
+        area::show_match(l, r, work);
         return;
     }
     if kind == b'v' {
@@ -60,18 +60,18 @@ fn show(r: Record, kind: u8, text: &[u8], work: &[u8]) {
 }
 
 // The record after a case.
-pub fn case(r: Record, kind: u8, text: &[u8], work: &mut [u8]) -> Record {
+pub fn case(l: Layout, r: Record, kind: u8, text: &[u8], work: &mut [u8]) -> Record {
     if (kind | 32) == b's' {
-        return started(kind, work);
+        return started(l, kind, work);
     }
     if kind == b'i' {
-        return taken(r, text, work);
+        return taken(l, r, text, work);
     }
     if kind == b'o' {
         return trace::no_lines();
     }
     if kind == b'=' || kind == b'm' || kind == b'v' {
-        show(r, kind, text, work);
+        show(l, r, kind, text, work);
     }
     r
 }

@@ -1,12 +1,14 @@
 // The calls, on the record that the buffer holds.
 use super::show;
 use monitor::Checked;
+use pairs::Layout;
 use trace::Record;
 
 // Takes a line on the record that unpacks from bytes, with the rule "no EVENING includes a TEST".
 fn taken(bytes: &[u8], work: &mut [u8], line: &[u8]) -> Checked {
     let u = record_bytes::unpack(bytes);
     monitor::check_line(
+        Layout::Square,
         b"RUL\x01\x00\x02\x07EVENING\x04TEST\x08\x04\x00\x00\x04\x01\x01\x01\x00\x01\x07\x00\x01\x01\x02\x03\x03\x01\x04\x03\x00\x05\x02\x06\x00",
         u.state,
         work,
@@ -58,7 +60,7 @@ pub fn case(kind: u8, text: &[u8], bytes: &mut [u8], work: &mut [u8]) {
         return;
     }
     if k == b'z' {
-        let s = pairs::start_record(work);
+        let s = pairs::start_record(Layout::Square, work);
         pack(kind, s.state, bytes);
         return;
     }

@@ -12,7 +12,8 @@ use Rattle.lists.proofs.Lists.{take-pad}
 use Rattle.trace.specs.declared.Record.{Record}
 use Rattle.trace.specs.Trace.{Trace, noRun}
 use Rattle.trace.specs.Record.{recordOf}
-use Rattle.pairs.specs.Grid.{workSize}
+use Rattle.pairs.specs.declared.Layout.the-variants.{Square}
+use Rattle.pairs.specs.Layout.{workSize}
 use Rattle.rules.specs.declared.RuleRead.{RuleRead}
 use Rattle.rules.specs.declared.RuleRead.the-variants as RuleRead
 use Rattle.rules.specs.Rules.{ruleOf}
@@ -57,12 +58,12 @@ buffer n = (replicate n 0, omega (arith, length-replicate {A = ℕ} n 0))
 
 log-cut : (file log : List ℕ) → reportText file (take 8192 log) ≡ reportText file log
 log-cut file log =
-    let w = buffer workSize in
+    let w = buffer (workSize Square) in
     let out = buffer 256 in
-    let g : Given file log (logOf file log (w .0) (out .0)) = given file log (w .0) (out .0) (w .1) (out .1) in
-    one-text file (take 8192 log) log (logOf file (take 8192 log) (w .0) (out .0))
-    (given file (take 8192 log) (w .0) (out .0) (w .1) (out .1))
-    (subst (Given file log) (first-bytes-decide file log (w .0) (out .0)) g)
+    let g : Given file log (logOf Square file log (w .0) (out .0)) = given Square file log (w .0) (out .0) (workSize Square) refl (w .1) (out .1) in
+    one-text file (take 8192 log) log (logOf Square file (take 8192 log) (w .0) (out .0))
+    (given Square file (take 8192 log) (w .0) (out .0) (workSize Square) refl (w .1) (out .1))
+    (subst (Given file log) (first-bytes-decide Square file log (w .0) (out .0)) g)
 
 -- ── the rule file ──
 refused-report : (file log : List ℕ) (c : ℕ) → ruleOf file ≡ RuleRead.Refused c → reportText file log ≡ refusedText 0 c

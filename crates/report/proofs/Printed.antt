@@ -22,6 +22,7 @@ use Rattle.whole_log.specs.Log.{linesFrom}
 use Rattle.tallies.specs.Tally.{tallyOf, failed}
 use Rattle.whole_log.specs.Repeated.{Result}
 use Rattle.trace.proofs.Taken.{by-answer}
+use Rattle.pairs.specs.declared.Layout.{Layout}
 use Rattle.whole_log.proofs.Lines.{from-none, from-taken, from-refused}
 use Rattle.whole_log.proofs.Prefixes.{line-byte}
 use Rattle.text_pieces.specs.Pieces.{letterLine, refusedText}
@@ -72,7 +73,7 @@ module _ (file : List ℕ) (x : Rule) where
         (λ c. refusedText (t .lines + 1) c ++ tallyText (tallyOf t n))) p
 
   -- ── the record's text is that text ──
-  module _ (w : List ℕ) where
+  module _ (lay : Layout) (w : List ℕ) where
     -- what a whole-log call leaves after the lines that t stands for and the lines ls: its record and verdict bytes give the text
     pub record Printed (t : Trace) (ls : List (List ℕ)) (z : Result) : Type 0 where
       pub trace : Trace
@@ -81,10 +82,10 @@ module _ (file : List ℕ) (x : Rule) where
       pub line : LineLow (z .0 .ending)
       pub text : linesTo (z .2) (t .lines) ++ textFrom file x t (failsTo (z .2) (t .lines)) ls ≡ recordText trace (z .0 .ending) (z .2)
 
-    printed-none : (t : Trace) (out : List ℕ) → Sound t → Printed t [] (linesFrom file x t [] w out)
+    printed-none : (t : Trace) (out : List ℕ) → Sound t → Printed t [] (linesFrom lay file x t [] w out)
     unfolding recordText
     printed-none t out s =
-        subst (Printed t []) (sym (from-none file x t w out))
+        subst (Printed t []) (sym (from-none lay file x t w out))
         (record {
           trace = t;
           bounded = sound-bounded t s;
@@ -94,11 +95,11 @@ module _ (file : List ℕ) (x : Rule) where
         })
 
     module _ (t : Trace) (l : List ℕ) (ls : List (List ℕ)) (out : List ℕ) (s : Sound t) where
-      printed-refused : (c : ℕ) → step (next t) l ≡ refused c → Printed t (l ∷ ls) (linesFrom file x t (l ∷ ls) w out)
+      printed-refused : (c : ℕ) → step (next t) l ≡ refused c → Printed t (l ∷ ls) (linesFrom lay file x t (l ∷ ls) w out)
       unfolding recordText
       printed-refused c p =
           let b = sound-bounded t s in
-          subst (Printed t (l ∷ ls)) (sym (from-refused file x t l ls w out c p))
+          subst (Printed t (l ∷ ls)) (sym (from-refused lay file x t l ls w out c p))
           (record {
             trace = t;
             bounded = b;
@@ -122,17 +123,17 @@ module _ (file : List ℕ) (x : Rule) where
           ap (λ (z : List ℕ). linesTo b k ++ z) (text-taken t (failsTo b k) l ls u p)
           ∙ (sym (append-assoc (linesTo b k) (lineText (u .lines) (verdict u)) _) ∙ (λ i. sym g i ++ textFrom file x u (f i) ls))
 
-      first-byte : (u : Trace) → step (next t) l ≡ next u → t .lines < length out → getD (linesFrom file x t (l ∷ ls) w out .2) (t .lines) 0 ≡ verdictByte (verdict u)
+      first-byte : (u : Trace) → step (next t) l ≡ next u → t .lines < length out → getD (linesFrom lay file x t (l ∷ ls) w out .2) (t .lines) 0 ≡ verdictByte (verdict u)
       first-byte u p h =
           let z : t .lines + 0 ≡ t .lines = omega arith in
-          subst (λ (k : ℕ). getD (linesFrom file x t (l ∷ ls) w out .2) k 0 ≡ verdictByte (verdict u)) z
-          (line-byte file x w 0 (l ∷ ls) t out u (omega arith) p (omega arith))
+          subst (λ (k : ℕ). getD (linesFrom lay file x t (l ∷ ls) w out .2) k 0 ≡ verdictByte (verdict u)) z
+          (line-byte lay file x w 0 (l ∷ ls) t out u (omega arith) p (omega arith))
 
       printed-taken : (u : Trace) → step (next t) l ≡ next u → t .lines < length out
-          → Printed u ls (linesFrom file x u ls w (set out (t .lines) (verdictByte (verdict u)))) → Printed t (l ∷ ls) (linesFrom file x t (l ∷ ls) w out)
+          → Printed u ls (linesFrom lay file x u ls w (set out (t .lines) (verdictByte (verdict u)))) → Printed t (l ∷ ls) (linesFrom lay file x t (l ∷ ls) w out)
       printed-taken u p h r =
-          let z : Result = linesFrom file x t (l ∷ ls) w out in
-          let q : Printed u ls z = subst (Printed u ls) (sym (from-taken file x t l ls w out u p)) r in
+          let z : Result = linesFrom lay file x t (l ∷ ls) w out in
+          let q : Printed u ls z = subst (Printed u ls) (sym (from-taken lay file x t l ls w out u p)) r in
           record {
             trace = q .trace;
             bounded = q .bounded;
@@ -142,7 +143,7 @@ module _ (file : List ℕ) (x : Rule) where
           }
 
     -- THE LAW: the record and the verdict bytes that are left give the printed text
-    pub printed : (ls : List (List ℕ)) (t : Trace) (out : List ℕ) → Sound t → 256 ≤ length out → Printed t ls (linesFrom file x t ls w out)
+    pub printed : (ls : List (List ℕ)) (t : Trace) (out : List ℕ) → Sound t → 256 ≤ length out → Printed t ls (linesFrom lay file x t ls w out)
     printed [] t out s h = printed-none t out s
     printed (l ∷ ls) t out s h =
         by-answer t l

@@ -11,7 +11,8 @@ use Rattle.lines.specs.Log.{linesOf}
 use Rattle.trace.specs.Trace.{Trace, noTrace}
 use Rattle.trace.specs.Record.{recordOf, Bounded}
 use Rattle.trace.proofs.Bounds.{sound-none, sound-bounded}
-use Rattle.pairs.specs.Grid.{workSize}
+use Rattle.pairs.specs.declared.Layout.{Layout}
+use Rattle.pairs.specs.Layout.{workSize}
 use Rattle.rules.specs.declared.Rule.{Rule}
 use Rattle.rules.specs.declared.RuleRead.{RuleRead}
 use Rattle.rules.specs.declared.RuleRead.the-variants as RuleRead
@@ -38,7 +39,10 @@ pub record Given (file log : List ℕ) (z : Checked) : Type 0 where
   pub line : LineLow (z .0 .ending)
   pub text : recordText trace (z .0 .ending) (z .2) ≡ reportText file log
 
-module _ (file log w out : List ℕ) (long : workSize ≤ length w) (room : 256 ≤ length out) where
+module _ (lay : Layout) (file log w out : List ℕ) (m : ℕ) (size : m ≡ workSize lay) (enough : m ≤ length w) (room : 256 ≤ length out) where
+  long : workSize lay ≤ length w
+  long = omega arith
+
   given-unruled : (n : ℕ) → ruleOf file ≡ RuleRead.Refused n → Given file log (notRead n, w, out)
   unfolding recordText linesTo reportText
   given-unruled n e =
@@ -50,10 +54,10 @@ module _ (file log w out : List ℕ) (long : workSize ≤ length w) (room : 256 
         text = append-nil (refusedText 0 n) ∙ sym (with-refused {A = List ℕ} (ruleOf file) n _ _ e);
       }
 
-  given-ruled : (x : Rule) → ruleOf file ≡ RuleRead.Rule x → Given file log (linesFrom file x noTrace (linesOf log) w out)
+  given-ruled : (x : Rule) → ruleOf file ≡ RuleRead.Rule x → Given file log (linesFrom lay file x noTrace (linesOf log) w out)
   unfolding linesTo failsTo reportText
   given-ruled x e =
-      let p : Printed file x w noTrace (linesOf log) (linesFrom file x noTrace (linesOf log) w out) = printed file x w (linesOf log) noTrace out sound-none room in
+      let p : Printed file x lay w noTrace (linesOf log) (linesFrom lay file x noTrace (linesOf log) w out) = printed file x lay w (linesOf log) noTrace out sound-none room in
       record {
         trace = p .trace;
         bounded = p .bounded;
@@ -62,22 +66,22 @@ module _ (file log w out : List ℕ) (long : workSize ≤ length w) (room : 256 
         text = sym (p .text) ∙ sym (with-taken {A = List ℕ} (ruleOf file) x _ _ e);
       }
 
-  log-unruled : (n : ℕ) → ruleOf file ≡ RuleRead.Refused n → logOf file log w out ≡ (notRead n, w, out)
+  log-unruled : (n : ℕ) → ruleOf file ≡ RuleRead.Refused n → logOf lay file log w out ≡ (notRead n, w, out)
   unfolding logOf
-  log-unruled n e = simp (le-ltb (length w) workSize long, le-ltb (length out) 256 room) (with-refused (ruleOf file) n _ _ e)
+  log-unruled n e = simp (le-ltb (length w) (workSize lay) long, le-ltb (length out) 256 room) (with-refused (ruleOf file) n _ _ e)
 
-  log-ruled : (x : Rule) → ruleOf file ≡ RuleRead.Rule x → logOf file log w out ≡ linesFrom file x noTrace (linesOf log) w out
+  log-ruled : (x : Rule) → ruleOf file ≡ RuleRead.Rule x → logOf lay file log w out ≡ linesFrom lay file x noTrace (linesOf log) w out
   unfolding logOf
-  log-ruled x e = simp (le-ltb (length w) workSize long, le-ltb (length out) 256 room) (with-taken (ruleOf file) x _ _ e)
+  log-ruled x e = simp (le-ltb (length w) (workSize lay) long, le-ltb (length out) 256 room) (with-taken (ruleOf file) x _ _ e)
 
-  pub given : Given file log (logOf file log w out)
+  pub given : Given file log (logOf lay file log w out)
   given = by-rule (ruleOf file) refl
     where
-      by-rule : (q : RuleRead) → ruleOf file ≡ q → Given file log (logOf file log w out)
+      by-rule : (q : RuleRead) → ruleOf file ≡ q → Given file log (logOf lay file log w out)
       by-rule (RuleRead.Rule x) e = subst (Given file log) (sym (log-ruled x e)) (given-ruled x e)
       by-rule (RuleRead.Refused n) e = subst (Given file log) (sym (log-unruled n e)) (given-unruled n e)
 
-  module _ (a : LogRead) (v o : List ℕ) (k : ChecksLog file log w out a v o) where
+  module _ (a : LogRead) (v o : List ℕ) (k : ChecksLog lay file log w out a v o) where
     given-here : Given file log (a, v, o)
     given-here = subst (Given file log) (sym (k .answer)) given
 
@@ -106,10 +110,10 @@ module _ (file log w out : List ℕ) (long : workSize ≤ length w) (room : 256 
             short = omega (arith, p .few);
           }
 
-      same-answer : _≡_ {A = Result} (Length n, v, o, text′) (reportOf file log w out text)
+      same-answer : _≡_ {A = Result} (Length n, v, o, text′) (reportOf lay file log w out text)
       unfolding reportOf
       same-answer =
-          simp (le-ltb (length w) workSize long, le-ltb (length out) 256 room, le-ltb (length text) 2048 big)
+          simp (le-ltb (length w) (workSize lay) long, le-ltb (length out) 256 room, le-ltb (length text) 2048 big)
           (λ i. (Length (wrote .count i), k .answer i .1, k .answer i .2, wrote .bytes i))
 
       -- the bytes of the report
@@ -118,7 +122,7 @@ module _ (file log w out : List ℕ) (long : workSize ≤ length w) (room : 256 
           let q : n ≡ m = cc in
           sym (ap (take m) (wrote .bytes) ∙ take-at printed-text _ m (sym (wrote .count) ∙ q))
 
-      pub report-written : Reports file log w out text (Length n) v o text′
+      pub report-written : Reports lay file log w out text (Length n) v o text′
       unfolding reportText
       report-written =
           record {
@@ -134,8 +138,8 @@ module _ (file log w out : List ℕ) (long : workSize ≤ length w) (room : 256 
 no-length : {C : Type 0} (n : ℕ) → Refused 20 ≡ Length n → C
 no-length n q = absurd (let z : _≡_ {A = ℕ} 0 1 = cc in omega arith)
 
-module _ (file log w out text : List ℕ) where
-  report-refused : _≡_ {A = Result} (Refused 20, w, out, text) (reportOf file log w out text) → Reports file log w out text (Refused 20) w out text
+module _ (lay : Layout) (file log w out text : List ℕ) where
+  report-refused : _≡_ {A = Result} (Refused 20, w, out, text) (reportOf lay file log w out text) → Reports lay file log w out text (Refused 20) w out text
   report-refused e =
       record {
         answer = e;
@@ -144,14 +148,20 @@ module _ (file log w out text : List ℕ) where
         meaning = λ n x q r. no-length n q;
       }
 
-  pub short-work : length w < workSize → Reports file log w out text (Refused 20) w out text
+  pub short-work : (m : ℕ) → m ≡ workSize lay → length w < m → Reports lay file log w out text (Refused 20) w out text
   unfolding reportOf
-  short-work h = report-refused (simp (lt-ltb (length w) workSize h))
+  short-work m size l =
+      let h : length w < workSize lay = omega arith in
+      report-refused (simp (lt-ltb (length w) (workSize lay) h))
 
-  pub short-verdicts : workSize ≤ length w → length out < 256 → Reports file log w out text (Refused 20) w out text
+  pub short-verdicts : (m : ℕ) → m ≡ workSize lay → m ≤ length w → length out < 256 → Reports lay file log w out text (Refused 20) w out text
   unfolding reportOf
-  short-verdicts l h = report-refused (simp (le-ltb (length w) workSize l, lt-ltb (length out) 256 h))
+  short-verdicts m size k h =
+      let l : workSize lay ≤ length w = omega arith in
+      report-refused (simp (le-ltb (length w) (workSize lay) l, lt-ltb (length out) 256 h))
 
-  pub short-text : workSize ≤ length w → 256 ≤ length out → length text < 2048 → Reports file log w out text (Refused 20) w out text
+  pub short-text : (m : ℕ) → m ≡ workSize lay → m ≤ length w → 256 ≤ length out → length text < 2048 → Reports lay file log w out text (Refused 20) w out text
   unfolding reportOf
-  short-text l m h = report-refused (simp (le-ltb (length w) workSize l, le-ltb (length out) 256 m, lt-ltb (length text) 2048 h))
+  short-text n size k m h =
+      let l : workSize lay ≤ length w = omega arith in
+      report-refused (simp (le-ltb (length w) (workSize lay) l, le-ltb (length out) 256 m, lt-ltb (length text) 2048 h))

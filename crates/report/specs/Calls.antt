@@ -1,4 +1,4 @@
--- One call of each kind: what is handed in, what comes back (behind a ′ what a lent buffer holds at exit), and that
+-- One call of each kind: the layout that it names, what is handed in, what comes back (behind a ′ what a lent buffer holds at exit), and that
 -- its contract holds. The demands speak of every such call. That the calls keep their contracts is proved in their
 -- crates; `check_line_lent` has the contract of the call with a tally by value. The calls for C and the bytes of a
 -- record promise these answers (`scene_log`, `record_bytes`).
@@ -8,8 +8,9 @@ use mathlib.Core.List.{List}
 use lib.ListN.{length, getD}
 use Rattle.lists.specs.Limits.{maxLines}
 use Rattle.trace.specs.declared.Record.{Record}
+use Rattle.pairs.specs.declared.Layout.{Layout}
 use Rattle.pairs.specs.declared.Started.{Started}
-use Rattle.pairs.specs.Grid.{workSize}
+use Rattle.pairs.specs.Layout.{workSize}
 use Rattle.pairs.specs.Start.{startOf}
 use Rattle.single.specs.declared.Checked.{Checked}
 use Rattle.single.specs.Line.{ChecksLine}
@@ -24,23 +25,26 @@ use Rattle.report.specs.Report.{reportSize, Reports}
 
 -- starting a record
 pub record StartCall : Type 0 where
+  pub layout : Layout
   pub work : List ℕ
   pub answer : Started
   pub work′ : List ℕ
-  pub starts : _≡_ {A = Started × List ℕ} (answer, work′) (startOf work)
+  pub starts : _≡_ {A = Started × List ℕ} (answer, work′) (startOf layout work)
 
 -- one line on a record and a work area
 pub record LineCall : Type 0 where
+  pub layout : Layout
   pub file : List ℕ
   pub state : Record
   pub work : List ℕ
   pub line : List ℕ
   pub answer : Checked
   pub work′ : List ℕ
-  pub checks : ChecksLine file state work line answer work′
+  pub checks : ChecksLine layout file state work line answer work′
 
 -- the same with a tally
 pub record TalliedCall : Type 0 where
+  pub layout : Layout
   pub file : List ℕ
   pub state : Record
   pub tally : Tally
@@ -48,10 +52,11 @@ pub record TalliedCall : Type 0 where
   pub line : List ℕ
   pub answer : Tallied
   pub work′ : List ℕ
-  pub checks : ChecksTallied file state tally work line answer work′
+  pub checks : ChecksTallied layout file state tally work line answer work′
 
 -- a whole log
 pub record LogCall : Type 0 where
+  pub layout : Layout
   pub file : List ℕ
   pub log : List ℕ
   pub work : List ℕ
@@ -59,10 +64,11 @@ pub record LogCall : Type 0 where
   pub answer : LogRead
   pub work′ : List ℕ
   pub verdicts′ : List ℕ
-  pub checks : ChecksLog file log work verdicts answer work′ verdicts′
+  pub checks : ChecksLog layout file log work verdicts answer work′ verdicts′
 
 -- the report
 pub record ReportCall : Type 0 where
+  pub layout : Layout
   pub file : List ℕ
   pub log : List ℕ
   pub work : List ℕ
@@ -72,26 +78,26 @@ pub record ReportCall : Type 0 where
   pub work′ : List ℕ
   pub verdicts′ : List ℕ
   pub text′ : List ℕ
-  pub reports : Reports file log work verdicts text answer work′ verdicts′ text′
+  pub reports : Reports layout file log work verdicts text answer work′ verdicts′ text′
 
 -- ── lent buffers ──
 -- the report's buffers are long enough
 pub record LongEnough (k : ReportCall) : Type 0 where
-  pub work : workSize ≤ length (k .work)
+  pub work : workSize (k .layout) ≤ length (k .work)
   pub verdicts : maxLines ≤ length (k .verdicts)
   pub text : reportSize ≤ length (k .text)
 
 -- a buffer that a call is lent: what it holds at entry and at exit, and how many bytes from its front the call is
 -- stated to write
 pub data Lent (w w′ : List ℕ) (n : ℕ) : Type 0 where
-  start-work : (k : StartCall) → w ≡ k .work → w′ ≡ k .work′ → n ≡ workSize → Lent w w′ n
-  line-work : (k : LineCall) → w ≡ k .work → w′ ≡ k .work′ → n ≡ workSize → Lent w w′ n
-  tallied-work : (k : TalliedCall) → w ≡ k .work → w′ ≡ k .work′ → n ≡ workSize → Lent w w′ n
-  log-work : (k : LogCall) → w ≡ k .work → w′ ≡ k .work′ → n ≡ workSize → Lent w w′ n
+  start-work : (k : StartCall) → w ≡ k .work → w′ ≡ k .work′ → n ≡ workSize (k .layout) → Lent w w′ n
+  line-work : (k : LineCall) → w ≡ k .work → w′ ≡ k .work′ → n ≡ workSize (k .layout) → Lent w w′ n
+  tallied-work : (k : TalliedCall) → w ≡ k .work → w′ ≡ k .work′ → n ≡ workSize (k .layout) → Lent w w′ n
+  log-work : (k : LogCall) → w ≡ k .work → w′ ≡ k .work′ → n ≡ workSize (k .layout) → Lent w w′ n
   log-verdicts : (k : LogCall) → w ≡ k .verdicts → w′ ≡ k .verdicts′ → n ≡ k .answer .state .lines .0 → Lent w w′ n
-  report-work : (k : ReportCall) → w ≡ k .work → w′ ≡ k .work′ → n ≡ workSize → Lent w w′ n
+  report-work : (k : ReportCall) → w ≡ k .work → w′ ≡ k .work′ → n ≡ workSize (k .layout) → Lent w w′ n
   report-verdicts : (k : ReportCall) → w ≡ k .verdicts → w′ ≡ k .verdicts′
-      → n ≡ logOf (k .file) (k .log) (k .work) (k .verdicts) .0 .state .lines .0 → Lent w w′ n
+      → n ≡ logOf (k .layout) (k .file) (k .log) (k .work) (k .verdicts) .0 .state .lines .0 → Lent w w′ n
   report-text : (k : ReportCall) → w ≡ k .text → w′ ≡ k .text′ → k .answer ≡ Reported.Length n → Lent w w′ n
 
 -- from place n on the bytes are the same

@@ -8,7 +8,8 @@ use lib.ListN.{length, getD, take, drop}
 use Rattle.lists.specs.Limits.{maxLines}
 use Rattle.lines.specs.Log.{linesOf}
 use Rattle.trace.specs.Trace.{Trace, next, refused, noTrace, steps, Accepted, step}
-use Rattle.pairs.specs.Grid.{workSize}
+use Rattle.pairs.specs.declared.Layout.{Layout}
+use Rattle.pairs.specs.Layout.{workSize}
 use Rattle.rules.specs.declared.Rule.{Rule}
 use Rattle.rules.specs.declared.RuleRead.the-variants as RuleRead
 use Rattle.rules.specs.Rules.{ruleOf, formulaOf}
@@ -30,10 +31,10 @@ abbrev pub reportSize : ℕ
 reportSize = 2048
 
 -- "20 a lent buffer shorter than stated": for any of the three, and then nothing is written
-unfoldable pub reportOf : List ℕ → List ℕ → List ℕ → List ℕ → List ℕ → Result
-reportOf file log w out text =
-    cond (ltb (length w) workSize || (ltb (length out) maxLines || ltb (length text) reportSize)) (Refused 20, w, out, text)
-    (Length (length (reportText file log)), logOf file log w out .1, logOf file log w out .2, reportText file log ++ drop (length (reportText file log)) text)
+unfoldable pub reportOf : Layout → List ℕ → List ℕ → List ℕ → List ℕ → List ℕ → Result
+reportOf lay file log w out text =
+    cond (ltb (length w) (workSize lay) || (ltb (length out) maxLines || ltb (length text) reportSize)) (Refused 20, w, out, text)
+    (Length (length (reportText file log)), logOf lay file log w out .1, logOf lay file log w out .2, reportText file log ++ drop (length (reportText file log)) text)
 
 -- ── what the text says of the log ──
 -- a line of the text has a line's number and the letter of its verdict, where the lines up to it leave u
@@ -56,8 +57,8 @@ pub record TextMeans (file : List ℕ) (x : Rule) (log text : List ℕ) : Type 0
   pub whole : (t : Trace) → Accepted log t → drop (length (linesOf log)) (linesOf text) ≡ tallyText (tallyAfter file x log t) ∷ []
 
 -- the contract, for every input; and what the bytes of the report mean
-pub record Reports (file log w out text : List ℕ) (a : Reported) (w′ out′ text′ : List ℕ) : Type 0 where
-  pub answer : _≡_ {A = Result} (a, w′, out′, text′) (reportOf file log w out text)
+pub record Reports (lay : Layout) (file log w out text : List ℕ) (a : Reported) (w′ out′ text′ : List ℕ) : Type 0 where
+  pub answer : _≡_ {A = Result} (a, w′, out′, text′) (reportOf lay file log w out text)
   -- no report is longer than the shortest buffer that is taken
   pub short : (n : ℕ) → a ≡ Length n → n ≤ reportSize
   -- "A refused rule prints `0 R` and the number joined, and nothing else."

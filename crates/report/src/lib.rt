@@ -10,7 +10,7 @@ ghost use Rattle.report.specs.Text.{tallyText};
 ghost use Rattle.report.specs.RecordText.{byteFails, linesTo, failsTo, Printable, OfTrace, PrintsRecord};
 ghost use Rattle.report.specs.Report.{reportSize, Reports};
 use lists::MAX_LINES;
-use pairs::PAIR_BYTES;
+use pairs::Layout;
 use reading::LogRead;
 use tallies::Tally;
 
@@ -93,15 +93,17 @@ fn put_record(text: &mut [u8], verdicts: &[u8], c: LogRead) -> usize
 
 // The check's whole output for a rule file and a log: its length, and the text in the buffer. Refused where a buffer is too short.
 pub fn report(
+    layout: Layout,
     file: &[u8],
     log: &[u8],
     work: &mut [u8],
     verdicts: &mut [u8],
     text: &mut [u8],
 ) -> Reported
-    ensures { λ a. ⌜ Reports (now (file .entry)) (now (log .entry)) (now (work .entry)) (now (verdicts .entry)) (now (text .entry)) a (now (work .exit)) (now (verdicts .exit)) (now (text .exit)) ⌝ }
+    ensures { λ a. ⌜ Reports layout (now (file .entry)) (now (log .entry)) (now (work .entry)) (now (verdicts .entry)) (now (text .entry)) a (now (work .exit)) (now (verdicts .exit)) (now (text .exit)) ⌝ }
 {
-    if work.len() < PAIR_BYTES {
+    let end = pairs::work_bytes(layout);
+    if work.len() < end {
         return Reported::Refused(20);
     }
     if verdicts.len() < MAX_LINES {
@@ -110,7 +112,7 @@ pub fn report(
     if text.len() < REPORT_BYTES {
         return Reported::Refused(20);
     }
-    let c = whole_log::check_log(file, log, work, verdicts);
+    let c = whole_log::check_log(layout, file, log, work, verdicts);
     let n = put_record(text, verdicts, c);
     Reported::Length(n)
 }

@@ -7,8 +7,10 @@ use lib.Dec.{eqb}
 use lib.ListN.{getD}
 use Rattle.sets.specs.Sets.{mem}
 use Rattle.trace.specs.Trace.{Trace, Accepted}
+use Rattle.pairs.specs.declared.Layout.{Layout}
+use Rattle.pairs.specs.Layout.{place}
 use Rattle.pairs.specs.Pairs.{pairByte, workOf}
-use Rattle.pairs.proofs.Grid.{getD-gridIn}
+use Rattle.pairs.proofs.Work.{work-pair}
 use Rattle.logic.proofs.PairSays.{before-byte, overlaps-byte, includes-byte}
 use Rattle.set_table.specs.Rows.{row}
 use Rattle.row_table.specs.Rows.{pairOf, RowsOf}
@@ -27,10 +29,9 @@ module _ (log : List ℕ) (t : Trace) (a : Accepted log t) (i j : ℕ) where
       → mem (row table (128 * k + i)) j ≡ eqb (pairByte (t .runs) (rankRun t i) (rankRun t j)) (5 + k)
   rows-are-pair-bytes table file count rows k h l m = rows .first-given k i j (omega arith) l m ∙ by-byte k h
 
-  -- and so the byte that a work area of these runs has for the two
-  pub rows-are-kept-bytes : (w : List ℕ) → w ≡ workOf (t .runs) w → rankRun t i < 128 → rankRun t j < 128
+  -- and so the byte that a work area of these runs has for the two, in either layout, where the first begins first
+  pub rows-are-kept-bytes : (lay : Layout) (w : List ℕ) → w ≡ workOf lay t w → rankRun t i < rankRun t j → rankRun t j < 128
       → (table file : List ℕ) (count : ℕ) → RowsOf table file count (rankModel t) → (k : ℕ) → k < 3 → i < 128 → j < 128
-      → mem (row table (128 * k + i)) j ≡ eqb (getD w (128 * rankRun t i + rankRun t j) 0) (5 + k)
-  rows-are-kept-bytes w e a b table file count rows k h l m =
-      let byte = ap (λ (v : List ℕ). getD v (128 * rankRun t i + rankRun t j) 0) e ∙ getD-gridIn (pairByte (t .runs)) w (rankRun t i) (rankRun t j) a b in
-      rows-are-pair-bytes table file count rows k h l m ∙ ap (λ (n : ℕ). eqb n (5 + k)) (sym byte)
+      → mem (row table (128 * k + i)) j ≡ eqb (getD w (place lay (rankRun t i) (rankRun t j)) 0) (5 + k)
+  rows-are-kept-bytes lay w e a b table file count rows k h l m =
+      rows-are-pair-bytes table file count rows k h l m ∙ ap (λ (n : ℕ). eqb n (5 + k)) (sym (work-pair lay t w w e (rankRun t i) (rankRun t j) a b))

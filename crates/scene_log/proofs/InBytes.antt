@@ -12,7 +12,8 @@ use Rattle.trace.specs.Trace.{Trace, noTrace, runNo, Accepted}
 use Rattle.trace.specs.Record.{recordOf, Valid}
 use Rattle.trace.proofs.Grown.{no-bytes}
 use Rattle.trace.proofs.Bounds.{accepted-bounded}
-use Rattle.pairs.specs.Grid.{workSize}
+use Rattle.pairs.specs.declared.Layout.{Layout}
+use Rattle.pairs.specs.Layout.{workSize}
 use Rattle.pairs.specs.declared.Started.{Started}
 use Rattle.pairs.specs.declared.Start.the-variants as Start
 use Rattle.pairs.specs.Pairs.{workOf}
@@ -51,27 +52,27 @@ unfolding unpackOf
 unpacked b u h k = ap (λ (z : Unpacked). z .state) (k .answer) ∙ simp (le-ltb _ _ h)
 
 -- the record and the work area that the lines of a log leave, the record in bytes
-left-in-bytes : (log : List ℕ) (t : Trace) → Accepted log t → (r : Record) → r ≡ recordOf t → (b b′ w w′ : List ℕ)
-    → b′ ≡ recordIn r b → w′ ≡ workOf (t .runs) w → Left log t (recordFrom b′) w′
-left-in-bytes log t a r e b b′ w w′ p q =
+left-in-bytes : (lay : Layout) (log : List ℕ) (t : Trace) → Accepted log t → (r : Record) → r ≡ recordOf t → (b b′ w w′ : List ℕ)
+    → b′ ≡ recordIn r b → w′ ≡ workOf lay t w → Left lay log t (recordFrom b′) w′
+left-in-bytes lay log t a r e b b′ w w′ p q =
     let v : Valid r = record { log = log; trace = t; accepted = a; encoded = e } in
     record {
       accepted = a;
       encoded = ap recordFrom p ∙ (packed-and-unpacked r v (drop recordSize b) ∙ e);
-      pairs = subst (λ (x : List ℕ). x ≡ workOf (t .runs) x) (sym q) (left-by log t a w .pairs);
+      pairs = subst (λ (x : List ℕ). x ≡ workOf lay t x) (sym q) (left-by lay log t a w .pairs);
     }
 
 -- ── the start of a record ──
-module _ (b w : List ℕ) where
-  pub start-no-record : length b < recordSize → StartsNumber b w (20 * 65536) b w
+module _ (lay : Layout) (b w : List ℕ) where
+  pub start-no-record : length b < recordSize → StartsNumber lay b w (20 * 65536) b w
   unfolding startNumbered
   start-no-record h = record { answer = simp (lt-ltb _ _ h); meaning = λ e. absurd (omega arith) }
 
-  module _ (long : recordSize ≤ length b) (s : Started) (w′ : List ℕ) (e : _≡_ {A = Started × List ℕ} (s, w′) (startOf w)) where
+  module _ (long : recordSize ≤ length b) (s : Started) (w′ : List ℕ) (e : _≡_ {A = Started × List ℕ} (s, w′) (startOf lay w)) where
     abbrev is : (a : Started) (v : List ℕ) → Type 0
     is a v = (s .outcome ≡ a .outcome) × (s .state ≡ a .state) × (w′ ≡ v)
 
-    parts : (a : Started) (v : List ℕ) → startOf w ≡ (a, v) → is a v
+    parts : (a : Started) (v : List ℕ) → startOf lay w ≡ (a, v) → is a v
     parts a v q =
         let p = e ∙ q in (
           ap (λ (z : Started × List ℕ). z .0 .outcome) p,
@@ -79,35 +80,35 @@ module _ (b w : List ℕ) where
           ap (λ (z : Started × List ℕ). z .1) p,
         )
 
-    short : length w < workSize → is (record { state = recordOf noTrace; outcome = Start.Refused 20 }) w
+    short : length w < workSize lay → is (record { state = recordOf noTrace; outcome = Start.Refused 20 }) w
     unfolding startOf
     short h = parts _ w (simp (lt-ltb _ _ h))
 
-    ready : workSize ≤ length w → is (record { state = recordOf noTrace; outcome = Start.Ready }) (workOf [] w)
+    ready : workSize lay ≤ length w → is (record { state = recordOf noTrace; outcome = Start.Ready }) (workOf lay noTrace w)
     unfolding startOf
-    ready h = parts _ (workOf [] w) (simp (le-ltb _ _ h))
+    ready h = parts _ (workOf lay noTrace w) (simp (le-ltb _ _ h))
 
-    pub start-no-work : (n : ℕ) → s .outcome ≡ Start.Refused n → StartsNumber b w (n * 65536) b w′
+    pub start-no-work : (n : ℕ) → s .outcome ≡ Start.Refused n → StartsNumber lay b w (n * 65536) b w′
     unfolding startNumbered
     start-no-work n q =
-        either-lt (length w) workSize
+        either-lt (length w) (workSize lay)
         (λ h.
         let k = short h in
         let m : n ≡ 20 = cc in
         record { answer = simp (le-ltb _ _ long, lt-ltb _ _ h) (λ j. (m j * 65536, b, k .2 j)); meaning = λ z. absurd (omega arith) })
         (λ h. let k = ready h in absurd (let z : _≡_ {A = ℕ} 0 1 = cc in omega arith))
 
-    pub start-both : s .outcome ≡ Start.Ready → (p : Packed) (b′ : List ℕ) → Packs (s .state) b p b′ → StartsNumber b w 0 b′ w′
+    pub start-both : s .outcome ≡ Start.Ready → (p : Packed) (b′ : List ℕ) → Packs (s .state) b p b′ → StartsNumber lay b w 0 b′ w′
     unfolding startNumbered
     start-both q p b′ k =
-        either-lt (length w) workSize
+        either-lt (length w) (workSize lay)
         (λ h. let m = short h in absurd (let z : _≡_ {A = ℕ} 0 1 = cc in omega arith))
         (λ h.
         let m = ready h in
         let put : b′ ≡ recordIn (s .state) b = packed (s .state) b p b′ long k in
         record {
           answer = simp (le-ltb _ _ long, le-ltb _ _ h) (λ j. (0, (put ∙ ap (λ (r : Record). recordIn r b) (m .1)) j, m .2 j));
-          meaning = λ _. left-in-bytes [] noTrace no-bytes (s .state) (m .1) b b′ w w′ put (m .2);
+          meaning = λ _. left-in-bytes lay [] noTrace no-bytes (s .state) (m .1) b b′ w w′ put (m .2);
         })
 
 -- ── one line ──
@@ -116,12 +117,12 @@ taken-bytes : (o : Outcome) (v : Verdict) (r : Record) (b : List ℕ) → o ≡ 
 taken-bytes o Verdict.Holds r b e = ap (λ (x : Outcome). bytesAfter x r b) e
 taken-bytes o Verdict.Fails r b e = ap (λ (x : Outcome). bytesAfter x r b) e
 
-module _ (file b w line : List ℕ) where
-  pub line-no-record : length b < recordSize → ChecksLineNumber file b w line (20 * 65536) b w
+module _ (lay : Layout) (file b w line : List ℕ) where
+  pub line-no-record : length b < recordSize → ChecksLineNumber lay file b w line (20 * 65536) b w
   line-no-record h = record { short = λ _. refl; long = λ g. absurd (omega arith) }
 
-  checks-bytes : (c : Checked) (n : ℕ) (b′ w′ : List ℕ) → ChecksLine file (recordFrom b) w line c w′
-      → _≡_ {A = ℕ × List ℕ} (n, b′) (lineNumbered c b) → ChecksBytes file b w line n b′ w′
+  checks-bytes : (c : Checked) (n : ℕ) (b′ w′ : List ℕ) → ChecksLine lay file (recordFrom b) w line c w′
+      → _≡_ {A = ℕ × List ℕ} (n, b′) (lineNumbered c b) → ChecksBytes lay file b w line n b′ w′
   checks-bytes c n b′ w′ k e =
       record {
         checked = c;
@@ -131,14 +132,14 @@ module _ (file b w line : List ℕ) where
             let taken = k .meaning x q log t l .taken v j in
             let put : b′ ≡ recordIn (c .state) b = ap (λ (z : ℕ × List ℕ). z .1) e ∙ taken-bytes (c .outcome) v (c .state) b j in (
               taken .trace,
-              left-in-bytes (log ++ line) (taken .trace) (taken .accepted) (c .state) (taken .state) b b′ w w′ put (taken .pairs),
+              left-in-bytes lay (log ++ line) (taken .trace) (taken .accepted) (c .state) (taken .state) b b′ w w′ put (taken .pairs),
             );
       }
 
-  pub line-checked : recordSize ≤ length b → (u : Unpacked) → Unpacks b u → (c : Checked) (w′ : List ℕ) → ChecksLine file (u .state) w line c w′
-      → (n : ℕ) (b′ : List ℕ) → _≡_ {A = ℕ × List ℕ} (n, b′) (lineNumbered c b) → ChecksLineNumber file b w line n b′ w′
+  pub line-checked : recordSize ≤ length b → (u : Unpacked) → Unpacks b u → (c : Checked) (w′ : List ℕ) → ChecksLine lay file (u .state) w line c w′
+      → (n : ℕ) (b′ : List ℕ) → _≡_ {A = ℕ × List ℕ} (n, b′) (lineNumbered c b) → ChecksLineNumber lay file b w line n b′ w′
   line-checked h u p c w′ k n b′ e =
-      let same : ChecksLine file (recordFrom b) w line c w′ = subst (λ (r : Record). ChecksLine file r w line c w′) (unpacked b u h p) k in
+      let same : ChecksLine lay file (recordFrom b) w line c w′ = subst (λ (r : Record). ChecksLine lay file r w line c w′) (unpacked b u h p) k in
       record { short = λ g. absurd (omega arith); long = λ _. checks-bytes c n b′ w′ same e }
 
 -- ── one line with a tally ──
@@ -147,15 +148,15 @@ taken-numbers : (o : Outcome) (v : Verdict) (y : Tally) (s : List ℕ) → o ≡
 taken-numbers o Verdict.Holds y s e = ap (λ (x : Outcome). numbersAfter x y s) e
 taken-numbers o Verdict.Fails y s e = ap (λ (x : Outcome). numbersAfter x y s) e
 
-module _ (file b s w line : List ℕ) where
-  pub tallied-no-record : length b < recordSize → ChecksTalliedNumber file b s w line (20 * 65536) b s w
+module _ (lay : Layout) (file b s w line : List ℕ) where
+  pub tallied-no-record : length b < recordSize → ChecksTalliedNumber lay file b s w line (20 * 65536) b s w
   tallied-no-record h = record { short-record = λ _. refl; short-tally = λ _. refl; long = λ g _. absurd (omega arith) }
 
-  pub tallied-no-tally : length s < 5 → ChecksTalliedNumber file b s w line (20 * 65536) b s w
+  pub tallied-no-tally : length s < 5 → ChecksTalliedNumber lay file b s w line (20 * 65536) b s w
   tallied-no-tally h = record { short-record = λ _. refl; short-tally = λ _. refl; long = λ _ g. absurd (omega arith) }
 
-  tallied-bytes : (c : Tallied) (n : ℕ) (b′ s′ w′ : List ℕ) → ChecksTallied file (recordFrom b) (tallyFrom s) w line c w′
-      → _≡_ {A = ℕ × List ℕ × List ℕ} (n, b′, s′) (talliedNumbered c b s) → ChecksTalliedBytes file b s w line n b′ s′ w′
+  tallied-bytes : (c : Tallied) (n : ℕ) (b′ s′ w′ : List ℕ) → ChecksTallied lay file (recordFrom b) (tallyFrom s) w line c w′
+      → _≡_ {A = ℕ × List ℕ × List ℕ} (n, b′, s′) (talliedNumbered c b s) → ChecksTalliedBytes lay file b s w line n b′ s′ w′
   tallied-bytes c n b′ s′ w′ k e =
       record {
         checked = c;
@@ -165,17 +166,17 @@ module _ (file b s w line : List ℕ) where
             let taken = k .meaning x q log t l same .single .taken v j in
             let put : b′ ≡ recordIn (c .state) b = ap (λ (z : ℕ × List ℕ × List ℕ). z .1) e ∙ taken-bytes (c .outcome) v (c .state) b j in (
               taken .trace,
-              left-in-bytes (log ++ line) (taken .trace) (taken .accepted) (c .state) (taken .state) b b′ w w′ put (taken .pairs),
+              left-in-bytes lay (log ++ line) (taken .trace) (taken .accepted) (c .state) (taken .state) b b′ w w′ put (taken .pairs),
             );
         counts-on = λ v j. ap tallyFrom (ap (λ (z : ℕ × List ℕ × List ℕ). z .2) e ∙ taken-numbers (c .outcome) v (c .tally) s j);
       }
 
   pub tallied-checked : recordSize ≤ length b → 5 ≤ length s → (u : Unpacked) → Unpacks b u → (y : Tally) → y ≡ tallyFrom s → (c : Tallied) (w′ : List ℕ)
-      → ChecksTallied file (u .state) y w line c w′ → (n : ℕ) (b′ s′ : List ℕ) → _≡_ {A = ℕ × List ℕ × List ℕ} (n, b′, s′) (talliedNumbered c b s)
-      → ChecksTalliedNumber file b s w line n b′ s′ w′
+      → ChecksTallied lay file (u .state) y w line c w′ → (n : ℕ) (b′ s′ : List ℕ) → _≡_ {A = ℕ × List ℕ × List ℕ} (n, b′, s′) (talliedNumbered c b s)
+      → ChecksTalliedNumber lay file b s w line n b′ s′ w′
   tallied-checked h g u p y q c w′ k n b′ s′ e =
-      let same : ChecksTallied file (recordFrom b) (tallyFrom s) w line c w′ =
-      subst (λ (z : Record × Tally). ChecksTallied file (z .0) (z .1) w line c w′) (λ i. (unpacked b u h p i, q i)) k in
+      let same : ChecksTallied lay file (recordFrom b) (tallyFrom s) w line c w′ =
+      subst (λ (z : Record × Tally). ChecksTallied lay file (z .0) (z .1) w line c w′) (λ i. (unpacked b u h p i, q i)) k in
       record {
         short-record = λ f. absurd (omega arith);
         short-tally = λ f. absurd (omega arith);
@@ -190,14 +191,14 @@ read-bytes a b e = ap (λ (x : Ending). bytesLeft x (a .state) b) e
 stopped-bytes : (a : LogRead) (b : List ℕ) (c l : ℕ) → a .ending ≡ Ending.Refused c l → (l ≡ 0 → ⊥) → bytesLeft (a .ending) (a .state) b ≡ recordIn (a .state) b
 stopped-bytes a b c l e h = ap (λ (x : Ending). bytesLeft x (a .state) b) e ∙ simp (ne-eqb _ _ h)
 
-module _ (file log b w out : List ℕ) where
-  pub log-no-record : length b < recordSize → KeepsLogNumber file log b w out (20 * 65536) b w out
+module _ (lay : Layout) (file log b w out : List ℕ) where
+  pub log-no-record : length b < recordSize → KeepsLogNumber lay file log b w out (20 * 65536) b w out
   log-no-record h = record { short = λ _. refl; long = λ g. absurd (omega arith) }
 
-  keeps : (n : ℕ) (b′ w′ out′ : List ℕ) → ChecksLog file log w out (logOf file log w out .0) w′ out′
-      → _≡_ {A = ℕ × List ℕ} (n, b′) (logKept (logOf file log w out .0) b) → KeepsLog file log b w out n b′ w′ out′
+  keeps : (n : ℕ) (b′ w′ out′ : List ℕ) → ChecksLog lay file log w out (logOf lay file log w out .0) w′ out′
+      → _≡_ {A = ℕ × List ℕ} (n, b′) (logKept (logOf lay file log w out .0) b) → KeepsLog lay file log b w out n b′ w′ out′
   keeps n b′ w′ out′ k e =
-      let a = logOf file log w out .0 in
+      let a = logOf lay file log w out .0 in
       let put : b′ ≡ bytesLeft (a .ending) (a .state) b = ap (λ (z : ℕ × List ℕ). z .1) e in
       record {
         answer = λ i. (e i .0, e i .1, k .answer i .1, k .answer i .2);
@@ -205,24 +206,24 @@ module _ (file log b w out : List ℕ) where
         whole = λ x q long room j.
             let taken = k .meaning x q long room .whole j in (
               taken .trace,
-              left-in-bytes log (taken .trace) (taken .accepted) (a .state) (taken .state) b b′ w w′ (put ∙ read-bytes a b j) (taken .pairs),
+              left-in-bytes lay log (taken .trace) (taken .accepted) (a .state) (taken .state) b b′ w w′ (put ∙ read-bytes a b j) (taken .pairs),
             );
         stops = λ x q long room c l j.
             let taken = k .meaning x q long room .stops c l j in (
               taken,
-              left-in-bytes (taken .first .before) (taken .first .trace) (taken .first .accepted) (a .state) (taken .state) b b′ w w′
+              left-in-bytes lay (taken .first .before) (taken .first .trace) (taken .first .accepted) (a .state) (taken .state) b b′ w w′
                   (put ∙ stopped-bytes a b c l j (λ z. omega (arith, taken .first .number))) (taken .pairs),
             );
       }
 
-  pub log-kept : recordSize ≤ length b → (a : LogRead) (w′ out′ : List ℕ) → ChecksLog file log w out a w′ out′
-      → (n : ℕ) (b′ : List ℕ) → _≡_ {A = ℕ × List ℕ} (n, b′) (logKept a b) → KeepsLogNumber file log b w out n b′ w′ out′
+  pub log-kept : recordSize ≤ length b → (a : LogRead) (w′ out′ : List ℕ) → ChecksLog lay file log w out a w′ out′
+      → (n : ℕ) (b′ : List ℕ) → _≡_ {A = ℕ × List ℕ} (n, b′) (logKept a b) → KeepsLogNumber lay file log b w out n b′ w′ out′
   log-kept h a w′ out′ k n b′ e =
-      let same : a ≡ logOf file log w out .0 = ap (λ (z : LogRead × List ℕ × List ℕ). z .0) (k .answer) in
+      let same : a ≡ logOf lay file log w out .0 = ap (λ (z : LogRead × List ℕ × List ℕ). z .0) (k .answer) in
       record {
         short = λ g. absurd (omega arith);
         long = λ _.
-            keeps n b′ w′ out′ (subst (λ (z : LogRead). ChecksLog file log w out z w′ out′) same k) (e ∙ ap (λ (z : LogRead). logKept z b) same);
+            keeps n b′ w′ out′ (subst (λ (z : LogRead). ChecksLog lay file log w out z w′ out′) same k) (e ∙ ap (λ (z : LogRead). logKept z b) same);
       }
 
 -- ── two runs ──

@@ -4,6 +4,7 @@ use mathlib.Core.Path.{_≡_, ap, sym, subst, _∙_}
 use mathlib.Core.List.{List}
 use native.Mathlib.Omega.{arith}
 use Rattle.lists.proofs.Cases.{either-lt}
+use Rattle.pairs.specs.declared.Layout.{Layout}
 use Rattle.relations.specs.declared.Composed.{Composed}
 use Rattle.relations.specs.Runs.{Conversed}
 use Rattle.relations.specs.Compose.{composedOf, Composition}
@@ -55,19 +56,19 @@ converses a a′ q w c n e =
     record { answer = e ∙ ap setNumber (m .answer); meaning = subst (Conversed a) (m .answer) m })
 
 -- ── a whole log ──
-pub checks : (file log w out : List ℕ) (a : LogRead) (n : ℕ) (w′ out′ : List ℕ)
-    → ChecksLog file log w out a w′ out′ → n ≡ logNumber a → ChecksLogNumber file log w out n w′ out′
-checks file log w out a n w′ out′ c e =
+pub checks : (lay : Layout) (file log w out : List ℕ) (a : LogRead) (n : ℕ) (w′ out′ : List ℕ)
+    → ChecksLog lay file log w out a w′ out′ → n ≡ logNumber a → ChecksLogNumber lay file log w out n w′ out′
+checks lay file log w out a n w′ out′ c e =
     record {
       answer = ap (λ (k : ℕ). (k, w′, out′)) e ∙ ap logNumbered (c .answer);
-      meaning = subst (λ (z : LogRead). ChecksLog file log w out z w′ out′) (ap (λ (z : LogRead × List ℕ × List ℕ). z .0) (c .answer)) c;
+      meaning = subst (λ (z : LogRead). ChecksLog lay file log w out z w′ out′) (ap (λ (z : LogRead × List ℕ × List ℕ). z .0) (c .answer)) c;
     }
 
 -- ── a report ──
-pub reports : (file log w out text : List ℕ) (a : Reported) (w′ out′ text′ : List ℕ) → Reports file log w out text a w′ out′ text′
-    → (n : ℕ) → n ≡ reportNumber a → ReportsNumber file log w out text n w′ out′ text′
-reports file log w out text a w′ out′ text′ r n e =
+pub reports : (lay : Layout) (file log w out text : List ℕ) (a : Reported) (w′ out′ text′ : List ℕ) → Reports lay file log w out text a w′ out′ text′
+    → (n : ℕ) → n ≡ reportNumber a → ReportsNumber lay file log w out text n w′ out′ text′
+reports lay file log w out text a w′ out′ text′ r n e =
     record {
       answer = ap (λ (k : ℕ). (k, w′, out′, text′)) e ∙ ap reportNumbered (r .answer);
-      meaning = subst (λ (z : Reported). Reports file log w out text z w′ out′ text′) (ap (λ (z : Result). z .0) (r .answer)) r;
+      meaning = subst (λ (z : Reported). Reports lay file log w out text z w′ out′ text′) (ap (λ (z : Result). z .0) (r .answer)) r;
     }

@@ -8,8 +8,9 @@ use Rattle.relations.specs.Runs.{Conversed}
 use Rattle.relations.specs.Compose.{composedOf, CompositionLaw}
 use Rattle.reading.specs.declared.LogRead.{LogRead}
 use Rattle.whole_log.specs.Log.{logOf, ChecksLog}
-use Rattle.answer_numbers.specs.Numbers.{setNumber, logNumber, reportNumber}
+use Rattle.answer_numbers.specs.Numbers.{refusal, setNumber, logNumber, reportNumber, ByLayout}
 use Rattle.report.specs.Report.{Result, reportOf, Reports}
+use Rattle.pairs.specs.declared.Layout.{Layout}
 
 -- ── sets of relations ──
 -- "takes two sets and answers a set, the composition that demand 3 calls reported, or refuses with 14"
@@ -27,15 +28,25 @@ abbrev pub logNumbered : LogRead × List ℕ × List ℕ → ℕ × List ℕ × 
 logNumbered z = (logNumber (z .0), z .1, z .2)
 
 -- the answer and both buffers, for every input; and what they mean
-pub record ChecksLogNumber (file log w out : List ℕ) (n : ℕ) (w′ out′ : List ℕ) : Type 0 where
-  pub answer : _≡_ {A = ℕ × List ℕ × List ℕ} (n, w′, out′) (logNumbered (logOf file log w out))
-  pub meaning : ChecksLog file log w out (logOf file log w out .0) w′ out′
+pub record ChecksLogNumber (lay : Layout) (file log w out : List ℕ) (n : ℕ) (w′ out′ : List ℕ) : Type 0 where
+  pub answer : _≡_ {A = ℕ × List ℕ × List ℕ} (n, w′, out′) (logNumbered (logOf lay file log w out))
+  pub meaning : ChecksLog lay file log w out (logOf lay file log w out .0) w′ out′
+
+-- by the number of a layout
+abbrev pub ChecksLogFor : ℕ → List ℕ → List ℕ → List ℕ → List ℕ → ℕ → List ℕ → List ℕ → Type 0
+ChecksLogFor l file log w out n w′ out′ =
+    ByLayout l (λ lay. ChecksLogNumber lay file log w out n w′ out′) (_≡_ {A = ℕ × List ℕ × List ℕ} (n, w′, out′) (refusal 20, w, out))
 
 -- ── a report ──
 abbrev pub reportNumbered : Result → ℕ × List ℕ × List ℕ × List ℕ
 reportNumbered z = (reportNumber (z .0), z .1, z .2, z .3)
 
 -- the answer and the three buffers, for every input; and what they mean
-pub record ReportsNumber (file log w out text : List ℕ) (n : ℕ) (w′ out′ text′ : List ℕ) : Type 0 where
-  pub answer : _≡_ {A = ℕ × List ℕ × List ℕ × List ℕ} (n, w′, out′, text′) (reportNumbered (reportOf file log w out text))
-  pub meaning : Reports file log w out text (reportOf file log w out text .0) w′ out′ text′
+pub record ReportsNumber (lay : Layout) (file log w out text : List ℕ) (n : ℕ) (w′ out′ text′ : List ℕ) : Type 0 where
+  pub answer : _≡_ {A = ℕ × List ℕ × List ℕ × List ℕ} (n, w′, out′, text′) (reportNumbered (reportOf lay file log w out text))
+  pub meaning : Reports lay file log w out text (reportOf lay file log w out text .0) w′ out′ text′
+
+abbrev pub ReportsFor : ℕ → List ℕ → List ℕ → List ℕ → List ℕ → List ℕ → ℕ → List ℕ → List ℕ → List ℕ → Type 0
+ReportsFor l file log w out text n w′ out′ text′ =
+    ByLayout l (λ lay. ReportsNumber lay file log w out text n w′ out′ text′)
+    (_≡_ {A = ℕ × List ℕ × List ℕ × List ℕ} (n, w′, out′, text′) (refusal 20, w, out, text))

@@ -3,24 +3,26 @@
 // A slice is a pointer and a length in C (`include/scene_log.h`). Every call takes any input. An answer that is an enum in the
 // library is a number here; `answer_numbers` says which: 65,536 times a refusal, anything else below 65,536. `specs/Numbers.antt`
 // has the contracts. The carried record is 2,628 bytes, in the form of `record_bytes`, and a tally is five numbers;
-// `specs/InBytes.antt` has the contracts of the calls that take them. A slip is a byte a run; `specs/Slips.antt` has its contracts.
+// `specs/InBytes.antt` has the contracts of the calls that take them. A slip is a byte a run; `specs/Slips.antt` has its contracts. A call
+// that is lent a work area names its layout by a number, and `in_layout` has it for each layout.
 ghost use mathlib.Core.Path.{_≡_};
 ghost use Rattle.labels.specs.Fnv.{fnvOf};
-ghost use Rattle.scene_log.specs.Numbers.{ComposesNumbers, ConversesNumber, ChecksLogNumber, ReportsNumber};
+ghost use Rattle.scene_log.specs.Numbers.{ComposesNumbers, ConversesNumber, ChecksLogFor, ReportsFor};
 ghost use Rattle.scene_log.specs.Texts.{ReadsTextNumber, WritesTextNumber};
 ghost use Rattle.scene_log.specs.Slips.{FindsNumber, PassesNumber};
-ghost use Rattle.scene_log.specs.InBytes.{StartsNumber, ChecksLineNumber, ChecksTalliedNumber, KeepsLogNumber, RelatesNumber};
-use pairs::Start;
+ghost use Rattle.scene_log.specs.InBytes.{StartsFor, ChecksLineFor, ChecksTalliedFor, KeepsLogFor, RelatesNumber};
 use trace::RunNo;
+
+mod in_layout;
 
 // The bytes of a record.
 const RECORD_BYTES: usize = record_bytes::RECORD_BYTES;
 
-// The numbers of a tally.
-const TALLY_COUNTS: usize = 5;
-
 // The fewest bytes of a buffer for a slip.
 const SLIP_BYTES: usize = rule_file::MAX_NESTED;
+
+// The layouts are named by 0 and 1; for any other number no buffer is long enough.
+const LAST_LAYOUT: u32 = 1;
 
 // The refusal of a lent buffer that is too short.
 const TOO_SHORT: u32 = 20 * answer_numbers::REFUSAL_STEP;
@@ -28,16 +30,20 @@ const TOO_SHORT: u32 = 20 * answer_numbers::REFUSAL_STEP;
 // The report of a rule file and a log at the start of the text: its length, or the refusal.
 #[no_mangle]
 pub extern "C" fn scene_log_report(
+    layout: u32,
     rule: &[u8],
     log: &[u8],
     work: &mut [u8],
     verdicts: &mut [u8],
     text: &mut [u8],
 ) -> u32
-    ensures { λ n. ⌜ ReportsNumber (now (rule .entry)) (now (log .entry)) (now (work .entry)) (now (verdicts .entry)) (now (text .entry)) n (now (work .exit)) (now (verdicts .exit)) (now (text .exit)) ⌝ }
+    ensures { λ n. ⌜ ReportsFor layout (now (rule .entry)) (now (log .entry)) (now (work .entry)) (now (verdicts .entry)) (now (text .entry)) n (now (work .exit)) (now (verdicts .exit)) (now (text .exit)) ⌝ }
 {
-    let a = report::report(rule, log, work, verdicts, text);
-    answer_numbers::report_number(a)
+    if LAST_LAYOUT < layout {
+        return TOO_SHORT;
+    }
+    let named = answer_numbers::layout_of(layout);
+    in_layout::report(named, rule, log, work, verdicts, text)
 }
 
 // The rule file of a typed rule at the start of the rule: its length, or the refusal.
@@ -61,96 +67,87 @@ pub extern "C" fn scene_log_text_from_rule(rule: &[u8], text: &mut [u8]) -> u32
 // A whole log with a rule file: the number of lines that are taken; or the refusal and the number of the refused line.
 #[no_mangle]
 pub extern "C" fn scene_log_check_log(
+    layout: u32,
     rule: &[u8],
     log: &[u8],
     work: &mut [u8],
     verdicts: &mut [u8],
 ) -> u32
-    ensures { λ n. ⌜ ChecksLogNumber (now (rule .entry)) (now (log .entry)) (now (work .entry)) (now (verdicts .entry)) n (now (work .exit)) (now (verdicts .exit)) ⌝ }
+    ensures { λ n. ⌜ ChecksLogFor layout (now (rule .entry)) (now (log .entry)) (now (work .entry)) (now (verdicts .entry)) n (now (work .exit)) (now (verdicts .exit)) ⌝ }
 {
-    let c = monitor::check_log(rule, log, work, verdicts);
-    answer_numbers::log_number(c)
+    if LAST_LAYOUT < layout {
+        return TOO_SHORT;
+    }
+    let named = answer_numbers::layout_of(layout);
+    in_layout::check_log(named, rule, log, work, verdicts)
 }
 
 // The same, with the record of the lines that are taken in bytes.
 #[no_mangle]
 pub extern "C" fn scene_log_check_log_record(
+    layout: u32,
     rule: &[u8],
     log: &[u8],
     carried: &mut [u8],
     work: &mut [u8],
     verdicts: &mut [u8],
 ) -> u32
-    ensures { λ n. ⌜ KeepsLogNumber (now (rule .entry)) (now (log .entry)) (now (carried .entry)) (now (work .entry)) (now (verdicts .entry)) n (now (carried .exit)) (now (work .exit)) (now (verdicts .exit)) ⌝ }
+    ensures { λ n. ⌜ KeepsLogFor layout (now (rule .entry)) (now (log .entry)) (now (carried .entry)) (now (work .entry)) (now (verdicts .entry)) n (now (carried .exit)) (now (work .exit)) (now (verdicts .exit)) ⌝ }
 {
-    if carried.len() < RECORD_BYTES {
+    if LAST_LAYOUT < layout {
         return TOO_SHORT;
     }
-    let c = monitor::check_log(rule, log, work, verdicts);
-    answer_numbers::keep_log(c, carried)
+    let named = answer_numbers::layout_of(layout);
+    in_layout::check_log_record(named, rule, log, carried, work, verdicts)
 }
 
 // Starts a record in bytes and its work area: 0, or the refusal.
 #[no_mangle]
-pub extern "C" fn scene_log_start(carried: &mut [u8], work: &mut [u8]) -> u32
-    ensures { λ n. ⌜ StartsNumber (now (carried .entry)) (now (work .entry)) n (now (carried .exit)) (now (work .exit)) ⌝ }
+pub extern "C" fn scene_log_start(layout: u32, carried: &mut [u8], work: &mut [u8]) -> u32
+    ensures { λ n. ⌜ StartsFor layout (now (carried .entry)) (now (work .entry)) n (now (carried .exit)) (now (work .exit)) ⌝ }
 {
-    if carried.len() < RECORD_BYTES {
+    if LAST_LAYOUT < layout {
         return TOO_SHORT;
     }
-    let s = pairs::start_record(work);
-    let state = s.state;
-    let outcome = s.outcome;
-    match outcome {
-        Start::Refused(n) => return (n as u32) * answer_numbers::REFUSAL_STEP,
-        Start::Ready => {
-            record_bytes::pack(state, carried);
-            return 0;
-        }
-    }
+    let named = answer_numbers::layout_of(layout);
+    in_layout::start(named, carried, work)
 }
 
 // One line on a record in bytes and its work area: 1 holds, 0 fails, or the refusal.
 #[no_mangle]
 pub extern "C" fn scene_log_check_line(
+    layout: u32,
     rule: &[u8],
     carried: &mut [u8],
     work: &mut [u8],
     line: &[u8],
 ) -> u32
-    ensures { λ n. ⌜ ChecksLineNumber (now (rule .entry)) (now (carried .entry)) (now (work .entry)) (now (line .entry)) n (now (carried .exit)) (now (work .exit)) ⌝ }
+    ensures { λ n. ⌜ ChecksLineFor layout (now (rule .entry)) (now (carried .entry)) (now (work .entry)) (now (line .entry)) n (now (carried .exit)) (now (work .exit)) ⌝ }
 {
-    if carried.len() < RECORD_BYTES {
+    if LAST_LAYOUT < layout {
         return TOO_SHORT;
     }
-    let u = record_bytes::unpack(carried);
-    let state = u.state;
-    let c = monitor::check_line(rule, state, work, line);
-    answer_numbers::keep_record(c, carried)
+    let named = answer_numbers::layout_of(layout);
+    in_layout::check_line(named, rule, carried, work, line)
 }
 
 // The same, with a tally: its five counts, which are updated where they stand.
 #[no_mangle]
 pub extern "C" fn scene_log_check_line_tallied(
+    layout: u32,
     rule: &[u8],
     carried: &mut [u8],
     tally: &mut [u32],
     work: &mut [u8],
     line: &[u8],
 ) -> u32
-    ensures { λ n. ⌜ ChecksTalliedNumber (now (rule .entry)) (now (carried .entry)) (now (tally .entry)) (now (work .entry)) (now (line .entry)) n (now (carried .exit)) (now (tally .exit)) (now (work .exit)) ⌝ }
+    ensures { λ n. ⌜ ChecksTalliedFor layout (now (rule .entry)) (now (carried .entry)) (now (tally .entry)) (now (work .entry)) (now (line .entry)) n (now (carried .exit)) (now (tally .exit)) (now (work .exit)) ⌝ }
 {
-    if carried.len() < RECORD_BYTES {
+    if LAST_LAYOUT < layout {
         return TOO_SHORT;
     }
-    if tally.len() < TALLY_COUNTS {
-        return TOO_SHORT;
-    }
-    let u = record_bytes::unpack(carried);
-    let state = u.state;
-    let y = answer_numbers::tally_from(tally);
-    let c = monitor::check_line_tallied(rule, state, y, work, line);
-    answer_numbers::keep_tallied(c, carried, tally)
+    let named = answer_numbers::layout_of(layout);
+    in_layout::check_line_tallied(named, rule, carried, tally, work, line)
 }
 
 // The relation of run a to run b of a record in bytes, or the refusal.

@@ -9,6 +9,7 @@ use Rattle.trace.specs.declared.Record.{Record}
 use Rattle.trace.specs.Trace.{Trace, Answer, next, refused, Accepted, step}
 use Rattle.trace.specs.Record.{recordOf}
 use Rattle.trace.proofs.Grown.{taken-grows}
+use Rattle.pairs.specs.declared.Layout.{Layout}
 use Rattle.pairs.specs.Pairs.{workOf}
 use Rattle.rules.specs.declared.Rule.{Rule}
 use Rattle.rules.specs.Rules.{formulaOf, Taken}
@@ -38,16 +39,16 @@ unfolding verdictOf
 verdict-says file x k u = closed-says u (formulaOf file x) (λ _. 0) (eval (modelOf u) (λ _. 0) (formulaOf file x)) (k .closed) refl
 
 -- ── the two ways out, read backwards ──
-module _ (file : List ℕ) (x : Rule) (t : Trace) (w line : List ℕ) (c : Checked) (v : List ℕ) (q : _≡_ {A = Checked × List ℕ} (c, v) (advanceOf file x t w line)) where
+module _ (lay : Layout) (file : List ℕ) (x : Rule) (t : Trace) (w line : List ℕ) (c : Checked) (v : List ℕ) (q : _≡_ {A = Checked × List ℕ} (c, v) (advanceOf lay file x t w line)) where
   pub record TakenOut (u : Trace) : Type 0 where
     pub state : c .state ≡ recordOf u
     pub outcome : c .outcome ≡ judged (verdictOf u (formulaOf file x))
-    pub pairs : v ≡ workOf (u .runs) w
+    pub pairs : v ≡ workOf lay u w
 
   pub taken-out : (u : Trace) → step (next t) line ≡ next u → TakenOut u
   unfolding lineAfter
   taken-out u p =
-      let e : _≡_ {A = Checked × List ℕ} (c, v) (lineAfter file x t w (next u)) = q ∙ ap (lineAfter file x t w) p in
+      let e : _≡_ {A = Checked × List ℕ} (c, v) (lineAfter lay file x t w (next u)) = q ∙ ap (lineAfter lay file x t w) p in
       record {
         state = ap (λ (z : Checked × List ℕ). z .0 .state) e;
         outcome = ap (λ (z : Checked × List ℕ). z .0 .outcome) e;
@@ -62,7 +63,7 @@ module _ (file : List ℕ) (x : Rule) (t : Trace) (w line : List ℕ) (c : Check
   pub refused-out : (d : ℕ) → step (next t) line ≡ refused d → RefusedOut d
   unfolding lineAfter
   refused-out d p =
-      let e : _≡_ {A = Checked × List ℕ} (c, v) (lineAfter file x t w (refused d)) = q ∙ ap (lineAfter file x t w) p in
+      let e : _≡_ {A = Checked × List ℕ} (c, v) (lineAfter lay file x t w (refused d)) = q ∙ ap (lineAfter lay file x t w) p in
       record {
         state = ap (λ (z : Checked × List ℕ). z .0 .state) e;
         outcome = ap (λ (z : Checked × List ℕ). z .0 .outcome) e;
@@ -78,7 +79,7 @@ module _ (file : List ℕ) (x : Rule) (t : Trace) (w line : List ℕ) (c : Check
       go (next u) p = f u p (taken-out u p)
       go (refused d) p = g d p (refused-out d p)
 
-  pub line-means : Taken file x → (log : List ℕ) (r : Record) → Accepted log t → r ≡ recordOf t → LineMeans file x log t r w line c v
+  pub line-means : Taken file x → (log : List ℕ) (r : Record) → Accepted log t → r ≡ recordOf t → LineMeans lay file x log t r w line c v
   line-means k log r acc e =
       by-line
       (λ u p o. record {

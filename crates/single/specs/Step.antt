@@ -6,12 +6,13 @@ use mathlib.Core.Path.{_≡_}
 use mathlib.Core.List.{List}
 use Rattle.trace.specs.declared.Record.{Record}
 use Rattle.trace.specs.Trace.{Trace}
+use Rattle.pairs.specs.declared.Layout.{Layout}
 use Rattle.rules.specs.declared.Rule.{Rule}
 use Rattle.reading.specs.Left.{Left}
 use Rattle.single.specs.declared.Checked.{Checked}
 use Rattle.single.specs.Line.{advanceOf}
 
 -- a line on a record and a work area: the answer and the work area, for every log that leaves them
-abbrev pub Advances : List ℕ → Rule → Record → List ℕ → List ℕ → Checked → List ℕ → Type 0
-Advances file x r w line c w′ =
-    (log : List ℕ) (t : Trace) → Left log t r w → _≡_ {A = Checked × List ℕ} (c, w′) (advanceOf file x t w line)
+abbrev pub Advances : Layout → List ℕ → Rule → Record → List ℕ → List ℕ → Checked → List ℕ → Type 0
+Advances lay file x r w line c w′ =
+    (log : List ℕ) (t : Trace) → Left lay log t r w → _≡_ {A = Checked × List ℕ} (c, w′) (advanceOf lay file x t w line)

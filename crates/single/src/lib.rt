@@ -4,7 +4,7 @@
 // every call on one line ends in it.
 ghost use mathlib.Core.Path.{_≡_};
 ghost use Rattle.single.specs.Line.{ChecksLine};
-use pairs::PAIR_BYTES;
+use pairs::Layout;
 use rules::RuleRead;
 pub use step::advance;
 use trace::Record;
@@ -24,11 +24,12 @@ pub struct Checked {
     pub outcome: Outcome,
 }
 
-// One line on a record and a work area, with a rule file: the new record and the verdict, or the refusal and the same record.
-pub fn check_line(file: &[u8], r: Record, work: &mut [u8], line: &[u8]) -> Checked
-    ensures { λ c. ⌜ ChecksLine (now (file .entry)) r (now (work .entry)) (now (line .entry)) c (now (work .exit)) ⌝ }
+// One line on a record and a work area in the layout, with a rule file: the new record and the verdict, or the refusal and the same record.
+pub fn check_line(layout: Layout, file: &[u8], r: Record, work: &mut [u8], line: &[u8]) -> Checked
+    ensures { λ c. ⌜ ChecksLine layout (now (file .entry)) r (now (work .entry)) (now (line .entry)) c (now (work .exit)) ⌝ }
 {
-    if work.len() < PAIR_BYTES {
+    let end = pairs::work_bytes(layout);
+    if work.len() < end {
         return Checked {
             state: r,
             outcome: Outcome::Refused(20),
@@ -43,13 +44,13 @@ pub fn check_line(file: &[u8], r: Record, work: &mut [u8], line: &[u8]) -> Check
             };
         }
         RuleRead::Rule(rule) => {
-            if !reading::known(r, work) {
+            if !reading::known(layout, r, work) {
                 return Checked {
                     state: r,
                     outcome: Outcome::Refused(21),
                 };
             }
-            return step::advance(file, rule, r, work, line);
+            return step::advance(layout, file, rule, r, work, line);
         }
     }
 }

@@ -19,7 +19,8 @@ use Rattle.trace.proofs.Taken.{line-lines, by-answer, line-taken}
 use Rattle.trace.proofs.Finished.{CountsMore, begin-counts, end-counts}
 use Rattle.trace.proofs.Grown.{taken-grows}
 use Rattle.trace.proofs.Induction.{accepted-keeps}
-use Rattle.pairs.specs.Grid.{workSize}
+use Rattle.pairs.specs.declared.Layout.{Layout}
+use Rattle.pairs.specs.Layout.{workSize}
 use Rattle.rules.specs.declared.Rule.{Rule}
 use Rattle.rules.specs.declared.RuleRead.{RuleRead}
 use Rattle.rules.specs.declared.RuleRead.the-variants as RuleRead
@@ -77,43 +78,43 @@ accepted-tally log t n a =
 abbrev line-part : Tallied × List ℕ → Checked × List ℕ
 line-part z = (untallied (z .0), z .1)
 
-module _ (file : List ℕ) (r : Record) (y : Tally) (w line : List ℕ) where
-  pub tallied-is-line : (t : Trace) → counts? t y ≡ true → line-part (talliedOf file r y w line (some t)) ≡ lineOf file r w line (some t)
+module _ (lay : Layout) (file : List ℕ) (r : Record) (y : Tally) (w line : List ℕ) where
+  pub tallied-is-line : (t : Trace) → counts? t y ≡ true → line-part (talliedOf lay file r y w line (some t)) ≡ lineOf lay file r w line (some t)
   unfolding talliedOf lineOf withRule talliedState stateOf talliedAfter lineAfter
-  tallied-is-line t p = either-bool (ltb (length w) workSize) (λ e. simp e) (λ e. simp e (by-rule (ruleOf file)))
+  tallied-is-line t p = either-bool (ltb (length w) (workSize lay)) (λ e. simp e) (λ e. simp e (by-rule (ruleOf file)))
     where
-      by-answer : (x : Rule) (a : Answer) → line-part (talliedAfter file x t y w a) ≡ lineAfter file x t w a
+      by-answer : (x : Rule) (a : Answer) → line-part (talliedAfter lay file x t y w a) ≡ lineAfter lay file x t w a
       by-answer x (next u) = refl
       by-answer x (refused c) = refl
 
-      by-rule : (q : RuleRead) → line-part (withRule q (λ n. (refusingWith r y n, w)) (λ x. talliedState file x r y w line (some t)))
-          ≡ withRule q (λ n. (refusing r n, w)) (λ x. stateOf file x r w line (some t))
+      by-rule : (q : RuleRead) → line-part (withRule q (λ n. (refusingWith r y n, w)) (λ x. talliedState lay file x r y w line (some t)))
+          ≡ withRule q (λ n. (refusing r n, w)) (λ x. stateOf lay file x r w line (some t))
       by-rule (RuleRead.Rule x) = simp p (by-answer x (step (next t) line))
       by-rule (RuleRead.Refused n) = refl
 
   -- so its answer means the same
-  module _ (x : Rule) (rule : ruleOf file ≡ RuleRead.Rule x) (log : List ℕ) (t : Trace) (l : Left log t r w) (p : counts? t y ≡ true) (a : Tallied) (v : List ℕ) (answer : _≡_ {A = Tallied × List ℕ} (a, v) (talliedOf file r y w line (some t))) where
-    long : workSize ≤ length w
-    long = pairs-long (t .runs) w w (l .pairs)
+  module _ (x : Rule) (rule : ruleOf file ≡ RuleRead.Rule x) (log : List ℕ) (t : Trace) (l : Left lay log t r w) (p : counts? t y ≡ true) (a : Tallied) (v : List ℕ) (answer : _≡_ {A = Tallied × List ℕ} (a, v) (talliedOf lay file r y w line (some t))) where
+    long : workSize lay ≤ length w
+    long = pairs-long lay t w w (l .pairs)
 
-    line-part-means : LineMeans file x log t r w line (untallied a) v
+    line-part-means : LineMeans lay file x log t r w line (untallied a) v
     unfolding lineOf stateOf
     line-part-means =
-        let e : _≡_ {A = Checked × List ℕ} (untallied a, v) (lineOf file r w line (some t)) = ap line-part answer ∙ tallied-is-line t p in
-        let s : lineOf file r w line (some t) ≡ stateOf file x r w line (some t) = simp (le-ltb (length w) workSize long) (with-taken (ruleOf file) x _ _ rule) in
-        line-means file x t w line (untallied a) v (e ∙ s) (reads-rule file (RuleRead.Rule x) (sym rule) .taken x refl) log r (l .accepted) (l .encoded)
+        let e : _≡_ {A = Checked × List ℕ} (untallied a, v) (lineOf lay file r w line (some t)) = ap line-part answer ∙ tallied-is-line t p in
+        let s : lineOf lay file r w line (some t) ≡ stateOf lay file x r w line (some t) = simp (le-ltb (length w) (workSize lay) long) (with-taken (ruleOf file) x _ _ rule) in
+        line-means lay file x t w line (untallied a) v (e ∙ s) (reads-rule file (RuleRead.Rule x) (sym rule) .taken x refl) log r (l .accepted) (l .encoded)
 
-    answer-is : _≡_ {A = Tallied × List ℕ} (a, v) (talliedAfter file x t y w (step (next t) line))
+    answer-is : _≡_ {A = Tallied × List ℕ} (a, v) (talliedAfter lay file x t y w (step (next t) line))
     unfolding talliedOf talliedState
     answer-is =
-        let s : talliedOf file r y w line (some t) ≡ talliedState file x r y w line (some t) = simp (le-ltb (length w) workSize long) (with-taken (ruleOf file) x _ _ rule) in
+        let s : talliedOf lay file r y w line (some t) ≡ talliedState lay file x r y w line (some t) = simp (le-ltb (length w) (workSize lay) long) (with-taken (ruleOf file) x _ _ rule) in
         answer ∙ (s ∙ simp p)
 
-    pub tallied-means : TalliedMeans file x log t r y w line a v
+    pub tallied-means : TalliedMeans lay file x log t r y w line a v
     unfolding talliedAfter tallyOf
     tallied-means = go (step (next t) line) refl answer-is
       where
-        go : (n : Answer) → step (next t) line ≡ n → _≡_ {A = Tallied × List ℕ} (a, v) (talliedAfter file x t y w n) → TalliedMeans file x log t r y w line a v
+        go : (n : Answer) → step (next t) line ≡ n → _≡_ {A = Tallied × List ℕ} (a, v) (talliedAfter lay file x t y w n) → TalliedMeans lay file x log t r y w line a v
         go (next u) q e =
             let f : Verdict = verdictOf u (formulaOf file x) in
             let o : a .outcome ≡ judged f = ap (λ (z : Tallied × List ℕ). z .0 .outcome) e in
@@ -137,7 +138,7 @@ module _ (file : List ℕ) (r : Record) (y : Tally) (w line : List ℕ) where
               kept = λ b m. ap (λ (z : Tallied × List ℕ). z .0 .tally) e;
             }
 
-  pub checks-tallied : (a : Tallied) (v : List ℕ) → ((k : Option Trace) → (Reached file w → HandedBy r w k) → _≡_ {A = Tallied × List ℕ} (a, v) (talliedOf file r y w line k))
-      → (Reached file w → (k : Option Trace) × HandedBy r w k) → ChecksTallied file r y w line a v
+  pub checks-tallied : (a : Tallied) (v : List ℕ) → ((k : Option Trace) → (Reached lay file w → HandedBy lay r w k) → _≡_ {A = Tallied × List ℕ} (a, v) (talliedOf lay file r y w line k))
+      → (Reached lay file w → (k : Option Trace) × HandedBy lay r w k) → ChecksTallied lay file r y w line a v
   checks-tallied a v answer d =
       record { decided = d; answer = answer; meaning = λ x rule log t l p. tallied-means x rule log t l p a v (answer (some t) (λ _. (log, l))) }

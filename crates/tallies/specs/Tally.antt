@@ -15,7 +15,8 @@ use Rattle.trace.specs.Trace.{Trace, Answer, next, refused, noTrace, endLine, A
 use Rattle.trace.specs.Orderly.{finishedRuns}
 use Rattle.trace.specs.Steps.{held}
 use Rattle.trace.specs.Record.{recordOf}
-use Rattle.pairs.specs.Grid.{workSize}
+use Rattle.pairs.specs.declared.Layout.{Layout}
+use Rattle.pairs.specs.Layout.{workSize}
 use Rattle.pairs.specs.Pairs.{workOf}
 use Rattle.rules.specs.declared.Rule.{Rule}
 use Rattle.rules.specs.declared.RuleRead.the-variants as RuleRead
@@ -103,27 +104,27 @@ pub record CountsLine (c : Checked) (y : Tally) (a : Tallied) : Type 0 where
   pub takes : (t : Trace) (v : Verdict) → c .state ≡ recordOf t → c .outcome ≡ judged v
       → a ≡ record { state = recordOf t; tally = tallyOf t (y .failing + failed v); outcome = judged v }
 
-unfoldable pub talliedAfter : List ℕ → Rule → Trace → Tally → List ℕ → Answer → Tallied × List ℕ
-talliedAfter file x t y w (next u) =
+unfoldable pub talliedAfter : Layout → List ℕ → Rule → Trace → Tally → List ℕ → Answer → Tallied × List ℕ
+talliedAfter lay file x t y w (next u) =
     let v = verdictOf u (formulaOf file x) in
-    (record { state = recordOf u; tally = tallyOf u (y .failing + failed v); outcome = judged v }, workOf (u .runs) w)
-talliedAfter file x t y w (refused c) = (refusingWith (recordOf t) y c, w)
+    (record { state = recordOf u; tally = tallyOf u (y .failing + failed v); outcome = judged v }, workOf lay u w)
+talliedAfter lay file x t y w (refused c) = (refusingWith (recordOf t) y c, w)
 
 -- 21, then 24, then the line
-unfoldable pub talliedState : List ℕ → Rule → Record → Tally → List ℕ → List ℕ → Option Trace → Tallied × List ℕ
-talliedState file x r y w line (some t) =
-    cond (counts? t y) (talliedAfter file x t y w (step (next t) line)) (refusingWith (recordOf t) y 24, w)
-talliedState file x r y w line none = (refusingWith r y 21, w)
+unfoldable pub talliedState : Layout → List ℕ → Rule → Record → Tally → List ℕ → List ℕ → Option Trace → Tallied × List ℕ
+talliedState lay file x r y w line (some t) =
+    cond (counts? t y) (talliedAfter lay file x t y w (step (next t) line)) (refusingWith (recordOf t) y 24, w)
+talliedState lay file x r y w line none = (refusingWith r y 21, w)
 
 -- 24, then the line, for every log that leaves the record and the work area
-abbrev pub AdvancesTallied : List ℕ → Rule → Record → Tally → List ℕ → List ℕ → Tallied → List ℕ → Type 0
-AdvancesTallied file x r y w line a w′ =
-    (log : List ℕ) (t : Trace) → Left log t r w → _≡_ {A = Tallied × List ℕ} (a, w′) (talliedState file x r y w line (some t))
+abbrev pub AdvancesTallied : Layout → List ℕ → Rule → Record → Tally → List ℕ → List ℕ → Tallied → List ℕ → Type 0
+AdvancesTallied lay file x r y w line a w′ =
+    (log : List ℕ) (t : Trace) → Left lay log t r w → _≡_ {A = Tallied × List ℕ} (a, w′) (talliedState lay file x r y w line (some t))
 
-unfoldable pub talliedOf : List ℕ → Record → Tally → List ℕ → List ℕ → Option Trace → Tallied × List ℕ
-talliedOf file r y w line h =
-    cond (ltb (length w) workSize) (refusingWith r y 20, w)
-    (withRule (ruleOf file) (λ n. (refusingWith r y n, w)) (λ x. talliedState file x r y w line h))
+unfoldable pub talliedOf : Layout → List ℕ → Record → Tally → List ℕ → List ℕ → Option Trace → Tallied × List ℕ
+talliedOf lay file r y w line h =
+    cond (ltb (length w) (workSize lay)) (refusingWith r y 20, w)
+    (withRule (ruleOf file) (λ n. (refusingWith r y n, w)) (λ x. talliedState lay file x r y w line h))
 
 -- "Begun is the count of accepted begin lines, finished that of accepted end lines, and begun equals finished plus open."
 pub record TallyCounts (log : List ℕ) (y : Tally) : Type 0 where
@@ -148,19 +149,19 @@ untallied a = record { state = a .state; outcome = a .outcome }
 -- what the answer says of the log, for a tally that has the record's counts: what that of the single-line call says; the counts are
 -- those of the log with the line, and failing lines rise by 1 exactly if the verdict fails; the tally of the log becomes that of the
 -- log with the line; a refused line leaves the tally
-pub record TalliedMeans (file : List ℕ) (x : Rule) (log : List ℕ) (t : Trace) (r : Record) (y : Tally) (w line : List ℕ) (a : Tallied) (w′ : List ℕ) : Type 0 where
-  pub single : LineMeans file x log t r w line (untallied a) w′
+pub record TalliedMeans (lay : Layout) (file : List ℕ) (x : Rule) (log : List ℕ) (t : Trace) (r : Record) (y : Tally) (w line : List ℕ) (a : Tallied) (w′ : List ℕ) : Type 0 where
+  pub single : LineMeans lay file x log t r w line (untallied a) w′
   pub counts : (v : Verdict) → a .outcome ≡ judged v → TallyCounts (log ++ line) (a .tally)
   pub failing : (v : Verdict) → a .outcome ≡ judged v → a .tally .failing ≡ y .failing + failed v
   pub goes-on : y ≡ tallyAfter file x log t → (v : Verdict) → a .outcome ≡ judged v → (u : Trace) → Accepted (log ++ line) u → a .tally ≡ tallyAfter file x (log ++ line) u
   pub kept : (c : ℕ) → a .outcome ≡ Refused c → a .tally ≡ y
 
 -- the contract, for every input
-pub record ChecksTallied (file : List ℕ) (r : Record) (y : Tally) (w line : List ℕ) (a : Tallied) (w′ : List ℕ) : Type 0 where
-  pub decided : Reached file w → (k : Option Trace) × HandedBy r w k
-  pub answer : (k : Option Trace) → (Reached file w → HandedBy r w k) → _≡_ {A = Tallied × List ℕ} (a, w′) (talliedOf file r y w line k)
-  pub meaning : (x : Rule) → ruleOf file ≡ RuleRead.Rule x → (log : List ℕ) (t : Trace) → Left log t r w → counts? t y ≡ true
-      → TalliedMeans file x log t r y w line a w′
+pub record ChecksTallied (lay : Layout) (file : List ℕ) (r : Record) (y : Tally) (w line : List ℕ) (a : Tallied) (w′ : List ℕ) : Type 0 where
+  pub decided : Reached lay file w → (k : Option Trace) × HandedBy lay r w k
+  pub answer : (k : Option Trace) → (Reached lay file w → HandedBy lay r w k) → _≡_ {A = Tallied × List ℕ} (a, w′) (talliedOf lay file r y w line k)
+  pub meaning : (x : Rule) → ruleOf file ≡ RuleRead.Rule x → (log : List ℕ) (t : Trace) → Left lay log t r w → counts? t y ≡ true
+      → TalliedMeans lay file x log t r y w line a w′
 
 -- the answer with a tally
 abbrev pub withTally : Checked → Tally → Tallied
@@ -168,5 +169,5 @@ withTally c y = record { state = c .state; tally = y; outcome = c .outcome }
 
 -- "A second form of the single-line call is also lent one tally, updated where it stands after each accepted line": the answer, with the
 -- tally y′ and the work area w′ at exit, is that of the call by value at the tally y lent
-abbrev pub ChecksLent : List ℕ → Record → Tally → List ℕ → List ℕ → Checked → Tally → List ℕ → Type 0
-ChecksLent file r y w line c y′ w′ = ChecksTallied file r y w line (withTally c y′) w′
+abbrev pub ChecksLent : Layout → List ℕ → Record → Tally → List ℕ → List ℕ → Checked → Tally → List ℕ → Type 0
+ChecksLent lay file r y w line c y′ w′ = ChecksTallied lay file r y w line (withTally c y′) w′

@@ -9,6 +9,7 @@ ghost use Rattle.trace.specs.Orderly.{finishedRuns};
 ghost use Rattle.tallies.specs.Tally.{refusingWith, CountsRecord, MatchesRecord, CountsLine, AdvancesTallied};
 use crate::Tallied;
 use crate::Tally;
+use pairs::Layout;
 use rules::Rule;
 use single::Checked;
 use single::Outcome;
@@ -119,6 +120,7 @@ fn count_line(c: Checked, y: Tally) -> Tallied
 
 // One line with a tally, on a record and a work area that accepted lines leave: 24 before the line.
 pub fn advance_tallied(
+    layout: Layout,
     file: &[u8],
     rule: Rule,
     r: Record,
@@ -127,12 +129,12 @@ pub fn advance_tallied(
     line: &[u8],
 ) -> Tallied
     requires { ⌜ Taken (now file) rule ⌝ }
-    requires { ⌜ Standing r (now work) ⌝ }
-    ensures { λ a. ⌜ AdvancesTallied (now (file .entry)) rule r y (now (work .entry)) (now (line .entry)) a (now (work .exit)) ⌝ }
+    requires { ⌜ Standing layout r (now work) ⌝ }
+    ensures { λ a. ⌜ AdvancesTallied layout (now (file .entry)) rule r y (now (work .entry)) (now (line .entry)) a (now (work .exit)) ⌝ }
 {
     if !counts_match(r, y) {
         return refuse_tallied(r, y, 24);
     }
-    let c = advance(file, rule, r, work, line);
+    let c = advance(layout, file, rule, r, work, line);
     count_line(c, y)
 }

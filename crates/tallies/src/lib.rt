@@ -4,7 +4,7 @@
 ghost use mathlib.Core.Path.{_≡_};
 ghost use Rattle.tallies.specs.Tally.{ChecksTallied};
 pub use counts::tally_of;
-use pairs::PAIR_BYTES;
+use pairs::Layout;
 use rules::RuleRead;
 use single::Outcome;
 use trace::Record;
@@ -27,21 +27,29 @@ pub struct Tallied {
     pub outcome: Outcome,
 }
 
-// One line on a record and a work area, with a rule file and a tally, which is updated where the line is taken.
-pub fn check_line_tallied(file: &[u8], r: Record, y: Tally, work: &mut [u8], line: &[u8]) -> Tallied
-    ensures { λ a. ⌜ ChecksTallied (now (file .entry)) r y (now (work .entry)) (now (line .entry)) a (now (work .exit)) ⌝ }
+// One line on a record and a work area in the layout, with a rule file and a tally, which is updated where the line is taken.
+pub fn check_line_tallied(
+    layout: Layout,
+    file: &[u8],
+    r: Record,
+    y: Tally,
+    work: &mut [u8],
+    line: &[u8],
+) -> Tallied
+    ensures { λ a. ⌜ ChecksTallied layout (now (file .entry)) r y (now (work .entry)) (now (line .entry)) a (now (work .exit)) ⌝ }
 {
-    if work.len() < PAIR_BYTES {
+    let end = pairs::work_bytes(layout);
+    if work.len() < end {
         return counts::refuse_tallied(r, y, 20);
     }
     let x = rule_file::read_rule(file);
     match x {
         RuleRead::Refused(n) => return counts::refuse_tallied(r, y, n),
         RuleRead::Rule(rule) => {
-            if !reading::known(r, work) {
+            if !reading::known(layout, r, work) {
                 return counts::refuse_tallied(r, y, 21);
             }
-            return counts::advance_tallied(file, rule, r, y, work, line);
+            return counts::advance_tallied(layout, file, rule, r, y, work, line);
         }
     }
 }

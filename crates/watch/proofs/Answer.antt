@@ -21,7 +21,8 @@ use Rattle.trace.specs.Record.{recordOf}
 use Rattle.trace.proofs.Taken.{by-answer, line-lines, line-said, line-faulty}
 use Rattle.trace.proofs.Grown.{taken-grows, said-whole, whole-first}
 use Rattle.trace.proofs.Bounds.{accepted-bounded}
-use Rattle.pairs.specs.Grid.{workSize}
+use Rattle.pairs.specs.declared.Layout.the-variants.{Half}
+use Rattle.pairs.specs.Layout.{workSize}
 use Rattle.pairs.specs.Pairs.{workOf}
 use Rattle.rules.specs.declared.Rule.{Rule}
 use Rattle.rules.specs.declared.RuleRead.the-variants as RuleRead
@@ -30,7 +31,7 @@ use Rattle.logic.specs.declared.Verdict.{Verdict}
 use Rattle.logic.specs.declared.Verdict.the-variants as Verdict
 use Rattle.logic.specs.Verdict.{verdictOf}
 use Rattle.reading.specs.Left.{Left}
-use Rattle.reading.proofs.Settled.{work-over, work-long}
+use Rattle.pairs.proofs.Work.{work-over, work-long}
 use Rattle.single.specs.declared.Outcome.the-variants.{Refused}
 use Rattle.single.specs.Line.{judged}
 use Rattle.single.proofs.LineCall.{with-taken}
@@ -59,24 +60,24 @@ judged-way Verdict.Fails = refl
 not-on : End ≡ On → ⊥
 not-on e = let z : _≡_ {A = ℕ} 0 1 = cc in omega arith
 
-module _ (file : List ℕ) (r : Record) (y : Tally) (w line : List ℕ) (a : Tallied) (w′ : List ℕ) (ck : ChecksTallied file r y w line a w′) (long : workSize ≤ length w) where
+module _ (file : List ℕ) (r : Record) (y : Tally) (w line : List ℕ) (a : Tallied) (w′ : List ℕ) (ck : ChecksTallied Half file r y w line a w′) (long : workSize Half ≤ length w) where
   -- of a rule and a log that leave what is handed in
-  module _ (x : Rule) (taken : ruleOf file ≡ RuleRead.Rule x) (log : List ℕ) (t : Trace) (l : Left log t r w) (e : y ≡ tallyAfter file x log t) where
+  module _ (x : Rule) (taken : ruleOf file ≡ RuleRead.Rule x) (log : List ℕ) (t : Trace) (l : Left Half log t r w) (e : y ≡ tallyAfter file x log t) where
     verdict : Trace → Verdict
     verdict u = verdictOf u (formulaOf file x)
 
     counted : counts? t y ≡ true
     counted = subst (λ (z : Tally). counts? t z ≡ true) (sym e) (tally-taken file x log t (l .accepted))
 
-    state-is : talliedOf file r y w line (some t) ≡ talliedState file x r y w line (some t)
+    state-is : talliedOf Half file r y w line (some t) ≡ talliedState Half file x r y w line (some t)
     unfolding talliedOf
-    state-is = simp (le-ltb (length w) workSize long) (with-taken (ruleOf file) x _ _ taken)
+    state-is = simp (le-ltb (length w) (workSize Half) long) (with-taken (ruleOf file) x _ _ taken)
 
-    line-decides : talliedState file x r y w line (some t) ≡ talliedAfter file x t y w (step (next t) line)
+    line-decides : talliedState Half file x r y w line (some t) ≡ talliedAfter Half file x t y w (step (next t) line)
     unfolding talliedState
     line-decides = simp counted
 
-    after : _≡_ {A = Tallied × List ℕ} (a, w′) (talliedAfter file x t y w (step (next t) line))
+    after : _≡_ {A = Tallied × List ℕ} (a, w′) (talliedAfter Half file x t y w (step (next t) line))
     after = ck .answer (some t) (λ _. (log, l)) ∙ (state-is ∙ line-decides)
 
     lines-same : y .lines ≡ t .lines
@@ -88,9 +89,9 @@ module _ (file : List ℕ) (r : Record) (y : Tally) (w line : List ℕ) (a : Tal
     own = subst (λ (z : Tally). tallyOf t (z .failing) ≡ z) (sym e) refl
 
     module _ (u : Trace) (p : step (next t) line ≡ next u) where
-      all : _≡_ {A = Tallied × List ℕ} (a, w′) (record { state = recordOf u; tally = tallyOf u (y .failing + failed (verdict u)); outcome = judged (verdict u) }, workOf (u .runs) w)
+      all : _≡_ {A = Tallied × List ℕ} (a, w′) (record { state = recordOf u; tally = tallyOf u (y .failing + failed (verdict u)); outcome = judged (verdict u) }, workOf Half u w)
       unfolding talliedAfter verdict
-      all = after ∙ ap (talliedAfter file x t y w) p
+      all = after ∙ ap (talliedAfter Half file x t y w) p
 
       tally-then : a .tally ≡ tallyAfter file x (log ++ line) u
       unfolding verdict
@@ -109,15 +110,15 @@ module _ (file : List ℕ) (r : Record) (y : Tally) (w line : List ℕ) (a : Tal
       outcome-then : a .outcome ≡ judged (verdict u)
       outcome-then = ap (λ (z : Tallied × List ℕ). z .0 .outcome) all
 
-      work-then : w′ ≡ workOf (u .runs) w
+      work-then : w′ ≡ workOf Half u w
       work-then = ap (λ (z : Tallied × List ℕ). z .1) all
 
-      left-then : Left (log ++ line) u (a .state) w′
+      left-then : Left Half (log ++ line) u (a .state) w′
       left-then =
           record {
             accepted = taken-grows log t (l .accepted) line u p;
             encoded = ap (λ (z : Tallied × List ℕ). z .0 .state) all;
-            pairs = work-then ∙ (sym (work-over (u .runs) (u .runs) w) ∙ ap (workOf (u .runs)) (sym work-then));
+            pairs = work-then ∙ (sym (work-over Half u w u) ∙ ap (workOf Half u) (sym work-then));
           }
 
       watching-then : Watching file (a .state) (a .tally) w′
@@ -125,7 +126,7 @@ module _ (file : List ℕ) (r : Record) (y : Tally) (w line : List ℕ) (a : Tal
           record {
             rule = x;
             taken = taken;
-            long = subst (λ (z : List ℕ). workSize ≤ length z) (sym work-then) (work-long (u .runs) w);
+            long = subst (λ (z : List ℕ). workSize Half ≤ length z) (sym work-then) (work-long Half u w);
             log = log ++ line;
             trace = u;
             left = left-then;
@@ -152,7 +153,7 @@ module _ (file : List ℕ) (r : Record) (y : Tally) (w line : List ℕ) (a : Tal
     module _ (c : ℕ) (p : step (next t) line ≡ refused c) where
       none : _≡_ {A = Tallied × List ℕ} (a, w′) (refusingWith (recordOf t) y c, w)
       unfolding talliedAfter
-      none = after ∙ ap (talliedAfter file x t y w) p
+      none = after ∙ ap (talliedAfter Half file x t y w) p
 
       tally-kept : a .tally ≡ y
       tally-kept = ap (λ (z : Tallied × List ℕ). z .0 .tally) none
@@ -171,10 +172,10 @@ module _ (file : List ℕ) (r : Record) (y : Tally) (w line : List ℕ) (a : Tal
           record {
             rule = x;
             taken = taken;
-            long = subst (λ (z : List ℕ). workSize ≤ length z) (sym work-kept) long;
+            long = subst (λ (z : List ℕ). workSize Half ≤ length z) (sym work-kept) long;
             log = log;
             trace = t;
-            left = record { accepted = l .accepted; encoded = state-kept ∙ l .encoded; pairs = work-kept ∙ (l .pairs ∙ ap (workOf (t .runs)) (sym work-kept)) };
+            left = record { accepted = l .accepted; encoded = state-kept ∙ l .encoded; pairs = work-kept ∙ (l .pairs ∙ ap (workOf Half t) (sym work-kept)) };
             tally = tally-kept ∙ e;
           }
 

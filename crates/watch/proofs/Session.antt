@@ -12,16 +12,17 @@ use Rattle.trace.specs.Trace.{Trace, noTrace}
 use Rattle.trace.specs.Record.{recordOf}
 use Rattle.trace.proofs.Grown.{no-bytes}
 use Rattle.trace.proofs.Bounds.{accepted-bounded}
+use Rattle.pairs.specs.declared.Layout.the-variants.{Half}
 use Rattle.pairs.specs.declared.Started.{Started}
 use Rattle.pairs.specs.declared.Start.the-variants.{Ready}
-use Rattle.pairs.specs.Grid.{workSize}
+use Rattle.pairs.specs.Layout.{workSize}
 use Rattle.pairs.specs.Pairs.{workOf}
 use Rattle.pairs.specs.Start.{startOf}
 use Rattle.rules.specs.declared.Rule.{Rule}
 use Rattle.rules.specs.declared.RuleRead.{RuleRead}
 use Rattle.rules.specs.declared.RuleRead.the-variants as RuleRead
 use Rattle.rules.specs.Rules.{ruleOf, ReadsRule}
-use Rattle.reading.proofs.Settled.{work-over, work-long}
+use Rattle.pairs.proofs.Work.{work-over, work-long}
 use Rattle.single.specs.declared.Outcome.{Outcome}
 use Rattle.single.specs.declared.Outcome.the-variants.{Holds, Fails, Refused}
 use Rattle.single.proofs.LineCall.{with-refused}
@@ -50,22 +51,22 @@ rule-read file q x f e = sym (f .answer) ∙ e
 abbrev zeros : Tally
 zeros = record { lines = 0; begun = 0; finished = 0; running = 0; failing = 0 }
 
-pub starts : (file w : List ℕ) (x : Rule) (a : Started) (w′ : List ℕ) → ruleOf file ≡ RuleRead.Rule x → workSize ≤ length w → _≡_ {A = Started × List ℕ} (a, w′) (startOf w)
+pub starts : (file w : List ℕ) (x : Rule) (a : Started) (w′ : List ℕ) → ruleOf file ≡ RuleRead.Rule x → workSize Half ≤ length w → _≡_ {A = Started × List ℕ} (a, w′) (startOf Half w)
     → Watching file (a .state) zeros w′
 unfolding startOf
 starts file w x a w′ e long p =
-    let all : _≡_ {A = Started × List ℕ} (a, w′) (record { state = recordOf noTrace; outcome = Ready }, workOf [] w) = p ∙ simp (le-ltb (length w) workSize long) in
-    let q : w′ ≡ workOf [] w = ap (λ (z : Started × List ℕ). z .1) all in
+    let all : _≡_ {A = Started × List ℕ} (a, w′) (record { state = recordOf noTrace; outcome = Ready }, workOf Half noTrace w) = p ∙ simp (le-ltb (length w) (workSize Half) long) in
+    let q : w′ ≡ workOf Half noTrace w = ap (λ (z : Started × List ℕ). z .1) all in
     record {
       rule = x;
       taken = e;
-      long = subst (λ (z : List ℕ). workSize ≤ length z) (sym q) (work-long [] w);
+      long = subst (λ (z : List ℕ). workSize Half ≤ length z) (sym q) (work-long Half noTrace w);
       log = [];
       trace = noTrace;
       left = record {
         accepted = no-bytes;
         encoded = ap (λ (z : Started × List ℕ). z .0 .state) all;
-        pairs = q ∙ (sym (work-over [] [] w) ∙ ap (workOf []) (sym q));
+        pairs = q ∙ (sym (work-over Half noTrace w noTrace) ∙ ap (workOf Half noTrace) (sym q));
       };
       tally = sym (tally-starts file x);
     }

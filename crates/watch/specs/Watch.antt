@@ -13,7 +13,8 @@ use Rattle.lines.specs.declared.Next.the-variants as Next
 use Rattle.lines.specs.Log.{linesOf, nextLine}
 use Rattle.trace.specs.declared.Record.{Record}
 use Rattle.trace.specs.Trace.{Trace, next, refused, step}
-use Rattle.pairs.specs.Grid.{workSize}
+use Rattle.pairs.specs.declared.Layout.the-variants.{Half}
+use Rattle.pairs.specs.Layout.{workSize}
 use Rattle.rules.specs.declared.Rule.{Rule}
 use Rattle.rules.specs.declared.RuleRead.the-variants as RuleRead
 use Rattle.rules.specs.Rules.{ruleOf, formulaOf}
@@ -46,10 +47,10 @@ wayOf (Refused c) = End
 pub record Watching (file : List ℕ) (r : Record) (y : Tally) (w : List ℕ) : Type 0 where
   pub rule : Rule
   pub taken : ruleOf file ≡ RuleRead.Rule rule
-  pub long : workSize ≤ length w
+  pub long : workSize Half ≤ length w
   pub log : List ℕ
   pub trace : Trace
-  pub left : Left log trace r w
+  pub left : Left Half log trace r w
   pub tally : y ≡ tallyAfter file rule log trace
 
 -- The bytes of a line are read before the rest of the input as the log reader reads them: they are the line that it hands
@@ -73,7 +74,7 @@ LineRead Filled.Failed xs = Unit {0}
 pub record GoesOn (file : List ℕ) (x : Rule) (log : List ℕ) (t : Trace) (y : Tally) (line : List ℕ) (a : Answered)
     (w′ s : List ℕ) (u : Trace) : Type 0 where
   pub text : s ≡ lineText (u .lines) (verdictOf u (formulaOf file x))
-  pub left : Left (log ++ line) u (a .state) w′
+  pub left : Left Half (log ++ line) u (a .state) w′
   pub tally : a .tally ≡ tallyAfter file x (log ++ line) u
   pub way : wayOf (a .outcome) ≡ On
   pub report : (rest : List ℕ)
@@ -99,7 +100,7 @@ pub record AnswersLine (file : List ℕ) (r : Record) (y : Tally) (w line : List
   pub watching : Watching file (a .state) (a .tally) w′
   pub more : wayOf (a .outcome) ≡ On → a .tally .lines ≡ y .lines + 1
   pub meaning : (x : Rule) → ruleOf file ≡ RuleRead.Rule x
-      → (log : List ℕ) (t : Trace) → Left log t r w → y ≡ tallyAfter file x log t
+      → (log : List ℕ) (t : Trace) → Left Half log t r w → y ≡ tallyAfter file x log t
       → ((u : Trace) → step (next t) line ≡ next u → GoesOn file x log t y line a w′ (take (a .size) text) u)
       × ((c : ℕ) → step (next t) line ≡ refused c → Ends file x t y line a (take (a .size) text) c)
 

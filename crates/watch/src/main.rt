@@ -2,11 +2,13 @@
 // for it. At the end of the input, or after a refused line, comes the line of the tally.
 //
 // A rule file that can't be opened counts as no bytes; a refused rule is all that is printed. A read or a write that fails is said on
-// standard error, and nothing more is printed after it. Arguments are ignored.
+// standard error, and nothing more is printed after it. Arguments are ignored. The work area has the half layout, which is the faster
+// one (docs/PERFORMANCE.md); what is printed is the same in either.
 ghost use Prim.Native.Nat.{_≤_};
 ghost use mathlib.Core.Path.{_≡_};
 ghost use lib.ListN.{length};
-ghost use Rattle.pairs.specs.Grid.{workSize};
+ghost use Rattle.pairs.specs.declared.Layout.the-variants.{Half};
+ghost use Rattle.pairs.specs.Layout.{workSize};
 ghost use Rattle.rules.specs.declared.RuleRead.the-variants as RuleRead;
 ghost use Rattle.rules.specs.Rules.{ruleOf};
 ghost use Rattle.text_pieces.specs.Writing.{WritesFew};
@@ -15,7 +17,8 @@ ghost use Rattle.watch.specs.Watch.{LineRead, outcomeText, wayOf, Watchi
 use input::Filled;
 use libc::STDIN_FILENO;
 use libc::STDOUT_FILENO;
-use pairs::PAIR_BYTES;
+use pairs::HALF_BYTES;
+use pairs::Layout;
 use rules::Rule;
 use rules::RuleRead;
 use single::Outcome;
@@ -121,7 +124,7 @@ fn answer_line(
     requires { ⌜ 9 ≤ length (now text) ⌝ }
     ensures { λ a. ⌜ AnswersLine (now (file .entry)) r y (now (work .entry)) (now (line .entry)) a (now (work .exit)) (now (text .exit)) ⌝ }
 {
-    let a = lent::lend_tally(file, r, y, work, line);
+    let a = lent::lend_tally(Layout::Half, file, r, y, work, line);
     let state = a.state;
     let tally = a.tally;
     let outcome = a.outcome;
@@ -283,10 +286,10 @@ fn refuse(c: u8) {
 
 // No line is read yet.
 fn start(file: &[u8], rule: Rule, work: &mut [u8]) -> Watch
-    requires { ⌜ (ruleOf (now file) ≡ RuleRead.Rule rule) × (workSize ≤ length (now work)) ⌝ }
+    requires { ⌜ (ruleOf (now file) ≡ RuleRead.Rule rule) × (workSize Half ≤ length (now work)) ⌝ }
     ensures { λ s. ⌜ Watching (now (file .entry)) (s .state) (s .tally) (now (work .exit)) ⌝ }
 {
-    let a = pairs::start_record(work);
+    let a = pairs::start_record(Layout::Half, work);
     let state = a.state;
     Watch {
         state: state,
@@ -310,7 +313,7 @@ fn watch_log(file: &[u8]) {
             return;
         }
         RuleRead::Rule(rule) => {
-            let mut work = [0u8; PAIR_BYTES];
+            let mut work = [0u8; HALF_BYTES];
             let s = start(file, rule, &mut work);
             let last = watch_lines(file, s, &mut work);
             finish(last);

@@ -20,7 +20,8 @@ use Rattle.lines.proofs.Log.{Handed, line-is-handed-out, done-means-no-lines, S
 use Rattle.trace.specs.Trace.{Trace, noTrace, Accepted}
 use Rattle.trace.proofs.Grown.{taken-grows, no-bytes}
 use Rattle.trace.proofs.Size.{accepted-short}
-use Rattle.pairs.specs.Grid.{workSize}
+use Rattle.pairs.specs.declared.Layout.{Layout}
+use Rattle.pairs.specs.Layout.{workSize}
 use Rattle.pairs.specs.Pairs.{workOf}
 use Rattle.rules.specs.declared.Rule.{Rule}
 use Rattle.rules.specs.Rules.{ruleOf, formulaOf}
@@ -75,16 +76,16 @@ module _ (log : List ℕ) where
       let l = length-take 8192 log in
       ap (take (e - p)) (drop-cut p) ∙ take-take (e - p) (8192 - p) (drop p log) (omega arith)
 
-  module _ (file : List ℕ) (x : Rule) (w : List ℕ) where
+  module _ (lay : Layout) (file : List ℕ) (x : Rule) (w : List ℕ) where
     -- a first line that is refused with 11
     faulty-from : (t : Trace) (out : List ℕ) (ls : List (List ℕ)) (l : List ℕ) (later : List (List ℕ)) → ls ≡ l ∷ later → eventOf l ≡ faulty 11
-        → linesFrom file x t ls w out ≡ (ended t (Refused 11 (t .lines + 1)), workOf (t .runs) w, out)
+        → linesFrom lay file x t ls w out ≡ (ended t (Refused 11 (t .lines + 1)), workOf lay t w, out)
     faulty-from t out ls l later e says =
-        ap (λ (k : List (List ℕ)). linesFrom file x t k w out) e ∙ from-refused file x t l later w out 11 (line-faulty t l 11 says)
+        ap (λ (k : List (List ℕ)). linesFrom lay file x t k w out) e ∙ from-refused lay file x t l later w out 11 (line-faulty t l 11 says)
 
     -- from a place that is reached, both logs give the same; n places at most are left
     same-from : (n p : ℕ) (t : Trace) (out : List ℕ) → length log - p < n → p ≤ length log → Accepted (take p log) t
-        → linesFrom file x t (linesOf (drop p log)) w out ≡ linesFrom file x t (linesOf (drop p cut)) w out
+        → linesFrom lay file x t (linesOf (drop p log)) w out ≡ linesFrom lay file x t (linesOf (drop p cut)) w out
     same-from zero p t out m h a = absurd (omega arith)
     same-from (suc n) p t out m h a =
         let low : p ≤ 5248 = omega (arith, accepted-short (take p log) t a, length-take p log) in
@@ -92,23 +93,23 @@ module _ (log : List ℕ) where
       where
         go : p ≤ 5248 → (r : Next) → nextLine log p ≡ r
             → ((e : ℕ) (u : Trace) → length log - e < n → e ≤ length log → Accepted (take e log) u
-            → linesFrom file x u (linesOf (drop e log)) w (set out (t .lines) (verdictByte (verdictOf u (formulaOf file x))))
-            ≡ linesFrom file x u (linesOf (drop e cut)) w (set out (t .lines) (verdictByte (verdictOf u (formulaOf file x)))))
-            → linesFrom file x t (linesOf (drop p log)) w out ≡ linesFrom file x t (linesOf (drop p cut)) w out
+            → linesFrom lay file x u (linesOf (drop e log)) w (set out (t .lines) (verdictByte (verdictOf u (formulaOf file x))))
+            ≡ linesFrom lay file x u (linesOf (drop e cut)) w (set out (t .lines) (verdictByte (verdictOf u (formulaOf file x)))))
+            → linesFrom lay file x t (linesOf (drop p log)) w out ≡ linesFrom lay file x t (linesOf (drop p cut)) w out
         go low (Next.Line s e) q rest =
             let f : Handed log p s e = line-is-handed-out log p s e q in
             let g : Handed cut p s e = line-is-handed-out cut p s e (next-cut p low ∙ q) in
             let l : List ℕ = lineBetween log p e in
             let b : linesOf (drop p cut) ≡ l ∷ linesOf (drop e cut) = g .lines ∙ ap (λ (k : List ℕ). k ∷ linesOf (drop e cut)) (line-cut p e (g .within)) in
-            let both : (ls : List (List ℕ)) (i : List (List ℕ)) → ls ≡ i → linesFrom file x t ls w out ≡ linesFrom file x t i w out = λ ls i e. ap (λ (k : List (List ℕ)). linesFrom file x t k w out) e in
+            let both : (ls : List (List ℕ)) (i : List (List ℕ)) → ls ≡ i → linesFrom lay file x t ls w out ≡ linesFrom lay file x t i w out = λ ls i e. ap (λ (k : List (List ℕ)). linesFrom lay file x t k w out) e in
             both _ _ (f .lines)
             ∙ (by-answer t l
             (λ u k.
             let grown : take e log ≡ take p log ++ l = (let c : e ≡ p + (e - p) = omega (arith, f .moves) in ap (λ (i : ℕ). take i log) c ∙ take-add p (e - p) log) in
-            from-taken file x t l (linesOf (drop e log)) w out u k
+            from-taken lay file x t l (linesOf (drop e log)) w out u k
             ∙ (rest e u (omega (arith, f .moves, f .within)) (f .within) (subst (λ (i : List ℕ). Accepted i u) (sym grown) (taken-grows (take p log) t a l u k))
-            ∙ sym (from-taken file x t l (linesOf (drop e cut)) w out u k)))
-            (λ c k. from-refused file x t l (linesOf (drop e log)) w out c k ∙ sym (from-refused file x t l (linesOf (drop e cut)) w out c k))
+            ∙ sym (from-taken lay file x t l (linesOf (drop e cut)) w out u k)))
+            (λ c k. from-refused lay file x t l (linesOf (drop e log)) w out c k ∙ sym (from-refused lay file x t l (linesOf (drop e cut)) w out c k))
             ∙ both _ _ (sym b))
         go low (Next.Refused c) q rest =
             let f : Spoilt log p c = refused-line-is-faulty log p c q in
@@ -116,11 +117,11 @@ module _ (log : List ℕ) where
             faulty-from t out (linesOf (drop p log)) (f .line) (f .later) (f .lines) (f .says)
             ∙ sym (faulty-from t out (linesOf (drop p cut)) (g .line) (g .later) (g .lines) (g .says))
         go low Next.Done q rest =
-            ap (λ (k : List (List ℕ)). linesFrom file x t k w out) (done-means-no-lines log p q ∙ sym (done-means-no-lines cut p (next-cut p low ∙ q)))
+            ap (λ (k : List (List ℕ)). linesFrom lay file x t k w out) (done-means-no-lines log p q ∙ sym (done-means-no-lines cut p (next-cut p low ∙ q)))
 
 -- THE LAW: nothing past the first 8,192 bytes of a log changes an answer.
-pub first-bytes-decide : (file log w out : List ℕ) → logOf file log w out ≡ logOf file (take 8192 log) w out
+pub first-bytes-decide : (lay : Layout) (file log w out : List ℕ) → logOf lay file log w out ≡ logOf lay file (take 8192 log) w out
 unfolding logOf
-first-bytes-decide file log w out =
-    ap (λ (f : Rule → Result). cond (ltb (length w) workSize || ltb (length out) 256) (notRead 20, w, out) (withRule (ruleOf file) (λ n. (notRead n, w, out)) f))
-    (λ i x. same-from log file x w (suc (length log)) 0 noTrace out (omega arith) (omega arith) no-bytes i)
+first-bytes-decide lay file log w out =
+    ap (λ (f : Rule → Result). cond (ltb (length w) (workSize lay) || ltb (length out) 256) (notRead 20, w, out) (withRule (ruleOf file) (λ n. (notRead n, w, out)) f))
+    (λ i x. same-from log lay file x w (suc (length log)) 0 noTrace out (omega arith) (omega arith) no-bytes i)

@@ -2,13 +2,15 @@
 use Prim.Native.Nat.{ℕ, _<_, _≤_}
 use mathlib.Core.Path.{_≡_, sym, _∙_}
 use mathlib.Core.List.{List}
+use native.Mathlib.Omega.{arith}
 use lib.ListN.{length}
 use borrow.Author.Tests.{lt-ltb, le-ltb}
 use Rattle.lines.specs.Log.{linesOf}
 use Rattle.trace.specs.declared.Record.{Record}
 use Rattle.trace.specs.Trace.{noTrace}
 use Rattle.trace.specs.Record.{recordOf}
-use Rattle.pairs.specs.Grid.{workSize}
+use Rattle.pairs.specs.declared.Layout.{Layout}
+use Rattle.pairs.specs.Layout.{workSize}
 use Rattle.rules.specs.declared.Rule.{Rule}
 use Rattle.rules.specs.declared.RuleRead.{RuleRead}
 use Rattle.rules.specs.declared.RuleRead.the-variants as RuleRead
@@ -22,32 +24,37 @@ use Rattle.whole_log.proofs.LogMeans.{checks-log}
 pub not-read : (s : Record) (n : ℕ) → s ≡ recordOf noTrace → _≡_ {A = LogRead} (record { state = s; ending = Refused n 0 }) (notRead n)
 not-read s n e i = record { state = e i; ending = Refused n 0 }
 
-module _ (file log w out : List ℕ) (a : LogRead) where
+module _ (lay : Layout) (file log w out : List ℕ) (a : LogRead) where
   abbrev Whole : Type 0
   Whole = LogRead × List ℕ × List ℕ
 
   same : (n : ℕ) → a ≡ notRead n → _≡_ {A = Whole} (a, w, out) (notRead n, w, out)
   same n e i = (e i, w, out)
 
-  pub log-short : length w < workSize → a ≡ notRead 20 → ChecksLog file log w out a w out
+  pub log-short : (m : ℕ) → m ≡ workSize lay → length w < m → a ≡ notRead 20 → ChecksLog lay file log w out a w out
   unfolding logOf
-  log-short h e = checks-log file log w out a w out (simp (lt-ltb (length w) workSize h) (same 20 e))
+  log-short m size l e =
+      let h : length w < workSize lay = omega arith in
+      checks-log lay file log w out a w out (simp (lt-ltb (length w) (workSize lay) h) (same 20 e))
 
-  module _ (long : workSize ≤ length w) where
-    pub log-small : length out < 256 → a ≡ notRead 20 → ChecksLog file log w out a w out
+  module _ (m : ℕ) (size : m ≡ workSize lay) (enough : m ≤ length w) where
+    long : workSize lay ≤ length w
+    long = omega arith
+
+    pub log-small : length out < 256 → a ≡ notRead 20 → ChecksLog lay file log w out a w out
     unfolding logOf
-    log-small h e = checks-log file log w out a w out (simp (le-ltb (length w) workSize long, lt-ltb (length out) 256 h) (same 20 e))
+    log-small h e = checks-log lay file log w out a w out (simp (le-ltb (length w) (workSize lay) long, lt-ltb (length out) 256 h) (same 20 e))
 
     module _ (room : 256 ≤ length out) (q : RuleRead) (rd : ReadsRule file q) where
-      pub log-unruled : (n : ℕ) → q ≡ RuleRead.Refused n → a ≡ notRead n → ChecksLog file log w out a w out
+      pub log-unruled : (n : ℕ) → q ≡ RuleRead.Refused n → a ≡ notRead n → ChecksLog lay file log w out a w out
       unfolding logOf
       log-unruled n e s =
-          checks-log file log w out a w out
-          (simp (le-ltb (length w) workSize long, le-ltb (length out) 256 room) (same n s ∙ sym (with-refused (ruleOf file) n _ _ (sym (rd .answer) ∙ e))))
+          checks-log lay file log w out a w out
+          (simp (le-ltb (length w) (workSize lay) long, le-ltb (length out) 256 room) (same n s ∙ sym (with-refused (ruleOf file) n _ _ (sym (rd .answer) ∙ e))))
 
-      pub log-read : (x : Rule) → q ≡ RuleRead.Rule x → (v o : List ℕ) → _≡_ {A = Whole} (a, v, o) (linesFrom file x noTrace (linesOf log) w out)
-          → ChecksLog file log w out a v o
+      pub log-read : (x : Rule) → q ≡ RuleRead.Rule x → (v o : List ℕ) → _≡_ {A = Whole} (a, v, o) (linesFrom lay file x noTrace (linesOf log) w out)
+          → ChecksLog lay file log w out a v o
       unfolding logOf
       log-read x e v o s =
-          checks-log file log w out a v o
-          (simp (le-ltb (length w) workSize long, le-ltb (length out) 256 room) (s ∙ sym (with-taken (ruleOf file) x _ _ (sym (rd .answer) ∙ e))))
+          checks-log lay file log w out a v o
+          (simp (le-ltb (length w) (workSize lay) long, le-ltb (length out) 256 room) (s ∙ sym (with-taken (ruleOf file) x _ _ (sym (rd .answer) ∙ e))))

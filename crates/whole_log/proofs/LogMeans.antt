@@ -11,7 +11,8 @@ use Rattle.lines.specs.Log.{linesOf}
 use Rattle.trace.specs.Trace.{Trace, next, refused, noTrace, steps, Accepted}
 use Rattle.trace.proofs.Grown.{no-bytes, flat, flat-lines}
 use Rattle.trace.proofs.Bounds.{accepted-bounded}
-use Rattle.pairs.specs.Grid.{workSize}
+use Rattle.pairs.specs.declared.Layout.{Layout}
+use Rattle.pairs.specs.Layout.{workSize}
 use Rattle.pairs.specs.Pairs.{workOf}
 use Rattle.rules.specs.declared.Rule.{Rule}
 use Rattle.rules.specs.declared.RuleRead.the-variants as RuleRead
@@ -37,14 +38,14 @@ read-not-refused c n e = absurd (let z : _≡_ {A = ℕ} 0 1 = cc in omega arith
 same-refusal : (c d n m : ℕ) → Refused d m ≡ Refused c n → (d ≡ c) × (m ≡ n)
 same-refusal c d n m e = ((cc), (cc))
 
-module _ (file log w out : List ℕ) (a : LogRead) (v o : List ℕ) (answer : _≡_ {A = Result} (a, v, o) (logOf file log w out)) where
-  module _ (x : Rule) (rule : ruleOf file ≡ RuleRead.Rule x) (long : workSize ≤ length w) (room : 256 ≤ length out) where
-    is : _≡_ {A = Result} (a, v, o) (linesFrom file x noTrace (linesOf log) w out)
+module _ (lay : Layout) (file log w out : List ℕ) (a : LogRead) (v o : List ℕ) (answer : _≡_ {A = Result} (a, v, o) (logOf lay file log w out)) where
+  module _ (x : Rule) (rule : ruleOf file ≡ RuleRead.Rule x) (long : workSize lay ≤ length w) (room : 256 ≤ length out) where
+    is : _≡_ {A = Result} (a, v, o) (linesFrom lay file x noTrace (linesOf log) w out)
     unfolding logOf
-    is = answer ∙ simp (le-ltb (length w) workSize long, le-ltb (length out) 256 room) (with-taken (ruleOf file) x _ _ rule)
+    is = answer ∙ simp (le-ltb (length w) (workSize lay) long, le-ltb (length out) 256 room) (with-taken (ruleOf file) x _ _ rule)
 
     abbrev z : Result
-    z = linesFrom file x noTrace (linesOf log) w out
+    z = linesFrom lay file x noTrace (linesOf log) w out
 
     abbrev got : Trace × Ending
     got = readFrom noTrace (linesOf log)
@@ -53,28 +54,28 @@ module _ (file log w out : List ℕ) (a : LogRead) (v o : List ℕ) (answer : _�
     how-ends = ends (linesOf log) noTrace
 
     answered : a ≡ readAnswer got
-    answered = ap (λ (q : Result). q .0) is ∙ ap (λ (q : LogRead × List ℕ). q .0) (from-read file x w (linesOf log) noTrace out)
+    answered = ap (λ (q : Result). q .0) is ∙ ap (λ (q : LogRead × List ℕ). q .0) (from-read lay file x w (linesOf log) noTrace out)
 
-    worked : v ≡ workOf (got .0 .runs) w
-    worked = ap (λ (q : Result). q .1) is ∙ ap (λ (q : LogRead × List ℕ). q .1) (from-read file x w (linesOf log) noTrace out)
+    worked : v ≡ workOf lay (got .0) w
+    worked = ap (λ (q : Result). q .1) is ∙ ap (λ (q : LogRead × List ℕ). q .1) (from-read lay file x w (linesOf log) noTrace out)
 
-    whole-log : a .ending ≡ Read → LogTaken log w a v
+    whole-log : a .ending ≡ Read → LogTaken lay log w a v
     whole-log m = go how-ends
       where
-        go : Ends noTrace (linesOf log) got → LogTaken log w a v
+        go : Ends noTrace (linesOf log) got → LogTaken lay log w a v
         go (through u e s) =
             record {
               trace = u;
               accepted = subst (λ (l : List ℕ). Accepted l u) (flat-lines log) (lines-accepted (linesOf log) [] noTrace no-bytes u e);
               state = ap (λ (b : LogRead). b .state) (answered ∙ ap readAnswer s);
-              pairs = worked ∙ ap (λ (k : Trace × Ending). workOf (k .0 .runs) w) s;
+              pairs = worked ∙ ap (λ (k : Trace × Ending). workOf lay (k .0) w) s;
             }
         go (at before l after u c d e r s) = read-not-refused c (u .lines + 1) (sym m ∙ ap (λ (b : LogRead). b .ending) (answered ∙ ap readAnswer s))
 
-    stopped-log : (c n : ℕ) → a .ending ≡ Refused c n → LogStopped log w c n a v
+    stopped-log : (c n : ℕ) → a .ending ≡ Refused c n → LogStopped lay log w c n a v
     stopped-log c n m = go how-ends
       where
-        go : Ends noTrace (linesOf log) got → LogStopped log w c n a v
+        go : Ends noTrace (linesOf log) got → LogStopped lay log w c n a v
         go (through u e s) = read-not-refused c n (sym (ap (λ (b : LogRead). b .ending) (answered ∙ ap readAnswer s)) ∙ m)
         go (at before l after u b d e r s) =
             let f = same-refusal c b n (u .lines + 1) (sym (ap (λ (b : LogRead). b .ending) (answered ∙ ap readAnswer s)) ∙ m) in
@@ -92,14 +93,14 @@ module _ (file log w out : List ℕ) (a : LogRead) (v o : List ℕ) (answer : _�
               };
               why = r ∙ ap refused (f .0);
               state = ap (λ (b : LogRead). b .state) (answered ∙ ap readAnswer s);
-              pairs = worked ∙ ap (λ (k : Trace × Ending). workOf (k .0 .runs) w) s;
+              pairs = worked ∙ ap (λ (k : Trace × Ending). workOf lay (k .0) w) s;
             }
 
     first-byte : (k : ℕ) (u : Trace) → k < length (linesOf log) → steps (next noTrace) (take (suc k) (linesOf log)) ≡ next u → k < length out
         → getD (z .2) k 0 ≡ verdictByte (verdictOf u (formulaOf file x))
     first-byte k u h e r =
         let s : 0 + k ≡ k = omega arith in
-        subst (λ (j : ℕ). getD (z .2) j 0 ≡ verdictByte (verdictOf u (formulaOf file x))) s (line-byte file x w k (linesOf log) noTrace out u h e (omega arith))
+        subst (λ (j : ℕ). getD (z .2) j 0 ≡ verdictByte (verdictOf u (formulaOf file x))) s (line-byte lay file x w k (linesOf log) noTrace out u h e (omega arith))
 
     line-room : (k : ℕ) (u : Trace) → k < length (linesOf log) → steps (next noTrace) (take (suc k) (linesOf log)) ≡ next u → k < length out
     line-room k u h e =
@@ -107,7 +108,7 @@ module _ (file log w out : List ℕ) (a : LogRead) (v o : List ℕ) (answer : _�
         let g : u .lines ≡ 0 + length (take (suc k) (linesOf log)) = lines-counted (take (suc k) (linesOf log)) noTrace u e in
         omega (arith, b .lines, g, length-take-le (suc k) (linesOf log) h, room)
 
-    pub log-means : LogMeans file x log w out a v o
+    pub log-means : LogMeans lay file x log w out a v o
     log-means =
         record {
           whole = whole-log;
@@ -116,9 +117,9 @@ module _ (file log w out : List ℕ) (a : LogRead) (v o : List ℕ) (answer : _�
             byte = ap (λ (b : Result). getD (b .2) k 0) is ∙ first-byte k u h e (line-room k u h e);
             verdict = verdict-says file x (reads-rule file (RuleRead.Rule x) (sym rule) .taken x refl) u;
           };
-          rest = λ k h. ap (λ (b : Result). getD (b .2) k 0) is ∙ bytes-rest file x w (linesOf log) noTrace out k (omega (arith, h, ap (λ (b : Result). b .0 .state .lines .0) is));
-          size = ap (λ (b : Result). length (b .2)) is ∙ bytes-size file x w (linesOf log) noTrace out;
+          rest = λ k h. ap (λ (b : Result). getD (b .2) k 0) is ∙ bytes-rest lay file x w (linesOf log) noTrace out k (omega (arith, h, ap (λ (b : Result). b .0 .state .lines .0) is));
+          size = ap (λ (b : Result). length (b .2)) is ∙ bytes-size lay file x w (linesOf log) noTrace out;
         }
 
-  pub checks-log : ChecksLog file log w out a v o
+  pub checks-log : ChecksLog lay file log w out a v o
   checks-log = record { answer = answer; meaning = log-means }

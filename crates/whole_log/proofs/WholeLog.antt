@@ -29,6 +29,7 @@ use Rattle.whole_log.specs.Repeated.{Result}
 use Rattle.whole_log.proofs.Lines.{from-read}
 use Rattle.whole_log.proofs.Prefixes.{line-byte, bytes-rest, bytes-size}
 use Rattle.trace.proofs.Taken.{by-answer}
+use Rattle.pairs.specs.declared.Layout.{Layout}
 
 -- the first of lines that are taken are taken
 front-taken : (k : ℕ) (ls : List (List ℕ)) (t u : Trace) → steps (next t) ls ≡ next u → (v : Trace) × (steps (next t) (take k ls) ≡ next v)
@@ -48,7 +49,7 @@ record TakenLines (ls : List (List ℕ)) (a : LogRead) : Type 0 where
   pub leave : steps (next noTrace) before ≡ next trace
   pub state : a .state ≡ recordOf trace
 
-module _ (log w : List ℕ) (a : LogRead) (v : List ℕ) (read : _≡_ {A = LogRead × List ℕ} (a, v) (readInto (readFrom noTrace (linesOf log)) w)) where
+module _ (lay : Layout) (log w : List ℕ) (a : LogRead) (v : List ℕ) (read : _≡_ {A = LogRead × List ℕ} (a, v) (readInto lay (readFrom noTrace (linesOf log)) w)) where
   taken-first : TakenLines (linesOf log) a
   taken-first = go (ends (linesOf log) noTrace)
     where
@@ -88,7 +89,7 @@ module _ (log w : List ℕ) (a : LogRead) (v : List ℕ) (read : _≡_ {A = LogR
   module _ (file : List ℕ) (x : Rule) (out : List ℕ) (room : 256 ≤ length out) (y : Timeline) (j : JudgesAll file x (a .state) y)
       (o : List ℕ) (f : Written y (a .state .lines .0) out o) where
     abbrev z : Result
-    z = linesFrom file x noTrace (linesOf log) w out
+    z = linesFrom lay file x noTrace (linesOf log) w out
 
     line-is : (k : ℕ) → k < u .lines → getD o k 0 ≡ getD (z .2) k 0
     line-is k h =
@@ -105,7 +106,7 @@ module _ (log w : List ℕ) (a : LogRead) (v : List ℕ) (read : _≡_ {A = LogR
         let zero-add : 0 + k ≡ k = omega arith in
         f .bytes k (omega (arith, state-lines))
         ∙ (ap verdictByte (says .answer)
-        ∙ sym (ap (λ (i : ℕ). getD (z .2) i 0) (sym zero-add) ∙ line-byte file x w k (linesOf log) noTrace out t more whole few))
+        ∙ sym (ap (λ (i : ℕ). getD (z .2) i 0) (sym zero-add) ∙ line-byte lay file x w k (linesOf log) noTrace out t more whole few))
       where
         length-both : length (before ++ taken-first .rest) ≡ length before + length (taken-first .rest)
         length-both = length-append before (taken-first .rest)
@@ -113,17 +114,17 @@ module _ (log w : List ℕ) (a : LogRead) (v : List ℕ) (read : _≡_ {A = LogR
     rest-is : (k : ℕ) → u .lines ≤ k → getD o k 0 ≡ getD (z .2) k 0
     rest-is k h =
         let e : z .0 .state .lines .0 ≡ u .lines =
-        ap (λ (q : LogRead × List ℕ). q .0 .state .lines .0) (from-read file x w (linesOf log) noTrace out ∙ sym read) ∙ state-lines in
-        f .rest k (omega (arith, state-lines)) ∙ sym (bytes-rest file x w (linesOf log) noTrace out k (omega arith))
+        ap (λ (q : LogRead × List ℕ). q .0 .state .lines .0) (from-read lay file x w (linesOf log) noTrace out ∙ sym read) ∙ state-lines in
+        f .rest k (omega (arith, state-lines)) ∙ sym (bytes-rest lay file x w (linesOf log) noTrace out k (omega arith))
 
     bytes-are : o ≡ z .2
     bytes-are =
-        ext-getD 0 o (z .2) (f .size ∙ sym (bytes-size file x w (linesOf log) noTrace out))
+        ext-getD 0 o (z .2) (f .size ∙ sym (bytes-size lay file x w (linesOf log) noTrace out))
         (λ k h. either-lt k (u .lines) (line-is k) (rest-is k))
 
     -- THE LAW: judging at once gives what judging line by line gives
-    pub read-at-once : _≡_ {A = LogRead × List ℕ × List ℕ} (a, v, o) (linesFrom file x noTrace (linesOf log) w out)
-    read-at-once = let q = read ∙ sym (from-read file x w (linesOf log) noTrace out) in λ i. (q i .0, q i .1, bytes-are i)
+    pub read-at-once : _≡_ {A = LogRead × List ℕ × List ℕ} (a, v, o) (linesFrom lay file x noTrace (linesOf log) w out)
+    read-at-once = let q = read ∙ sym (from-read lay file x w (linesOf log) noTrace out) in λ i. (q i .0, q i .1, bytes-are i)
 
 -- ── the loop that writes the bytes ──
 pub runs-fit : (file : List ℕ) (x : Rule) (r : Record) (y : Timeline) → JudgesAll file x r y → FitsRuns y

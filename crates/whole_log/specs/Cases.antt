@@ -7,18 +7,24 @@ use Rattle.lists.specs.Limits.{maxLines}
 use Rattle.labels.specs.Label.{labelNo, labelOf}
 use Rattle.trace.specs.declared.Run.{Run}
 use Rattle.trace.specs.Trace.{Trace, line}
-use Rattle.pairs.specs.Grid.{workSize}
+use Rattle.pairs.specs.declared.Layout.{Layout}
+use Rattle.pairs.specs.declared.Layout.the-variants.{Square, Half}
+use Rattle.pairs.specs.Layout.{workSize}
 use Rattle.rules.specs.Cases.{p1File}
 use Rattle.whole_log.specs.Log.{logOf}
 
 -- the buffers of a whole-log call are long enough
-pub record Long (w out : List ℕ) : Type 0 where
-  pub work : workSize ≤ length w
+pub record Long (lay : Layout) (w out : List ℕ) : Type 0 where
+  pub work : workSize lay ≤ length w
   pub verdicts : maxLines ≤ length out
 
--- pair byte 1, run 0 with run 1, after P1's rule and a log
-abbrev pub pairByte1 : List ℕ → List ℕ → List ℕ → ℕ
-pairByte1 log w out = getD (logOf p1File log w out .1) 1 0
+-- the byte of runs 0 and 1, after P1's rule and a log: pair byte 1 in the square layout, byte 0 in the half one
+abbrev pub firstPlace : Layout → ℕ
+firstPlace Square = 1
+firstPlace Half = 0
+
+abbrev pub firstPair : Layout → List ℕ → List ℕ → List ℕ → ℕ
+firstPair lay log w out = getD (logOf lay p1File log w out .1) (firstPlace lay) 0
 
 -- "Log lines `B 7 EVENING`, `B 9 TEST`, `E 9`, `E 7`", and what they leave
 abbrev pub p1Log : List ℕ

@@ -4,7 +4,7 @@
 ghost use mathlib.Core.Path.{_≡_};
 ghost use Rattle.whole_log.specs.Log.{notRead, ChecksLog};
 use lists::MAX_LINES;
-use pairs::PAIR_BYTES;
+use pairs::Layout;
 use reading::Ending;
 use reading::LogRead;
 use rules::RuleRead;
@@ -23,10 +23,17 @@ fn not_read(n: u8) -> LogRead
 }
 
 // A whole log with a rule file: the record of the lines that are taken, their verdict bytes, and how the reading ended.
-pub fn check_log(file: &[u8], log: &[u8], work: &mut [u8], verdicts: &mut [u8]) -> LogRead
-    ensures { λ a. ⌜ ChecksLog (now (file .entry)) (now (log .entry)) (now (work .entry)) (now (verdicts .entry)) a (now (work .exit)) (now (verdicts .exit)) ⌝ }
+pub fn check_log(
+    layout: Layout,
+    file: &[u8],
+    log: &[u8],
+    work: &mut [u8],
+    verdicts: &mut [u8],
+) -> LogRead
+    ensures { λ a. ⌜ ChecksLog layout (now (file .entry)) (now (log .entry)) (now (work .entry)) (now (verdicts .entry)) a (now (work .exit)) (now (verdicts .exit)) ⌝ }
 {
-    if work.len() < PAIR_BYTES {
+    let end = pairs::work_bytes(layout);
+    if work.len() < end {
         return not_read(20);
     }
     if verdicts.len() < MAX_LINES {
@@ -35,6 +42,6 @@ pub fn check_log(file: &[u8], log: &[u8], work: &mut [u8], verdicts: &mut [u8]) 
     let x = rule_file::read_rule(file);
     match x {
         RuleRead::Refused(n) => return not_read(n),
-        RuleRead::Rule(rule) => return log::read_lines(file, rule, log, work, verdicts),
+        RuleRead::Rule(rule) => return log::read_lines(layout, file, rule, log, work, verdicts),
     }
 }

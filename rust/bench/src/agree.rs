@@ -14,7 +14,7 @@ use generate::random::Random;
 use generate::rules::legal_rule;
 use reference::rule::{read_rule, BEFORE, HAS_LABEL, INCLUDES};
 use reference::typed::rule_file;
-use scene_log::{check_log, LogRefused, VERDICT_BYTES, WORK_BYTES};
+use scene_log::{check_log, Layout, LogRefused, VERDICT_BYTES, WORK_BYTES};
 use std::collections::BTreeSet;
 
 const PLAIN: (&str, Baseline) = ("plain", plain::verdicts);
@@ -23,7 +23,7 @@ const PUBLISHED: (&str, Baseline) = ("published", published::verdicts);
 /// The verdicts of the accepted lines by the proved check; the rule is legal.
 fn proved_verdicts(rule: &[u8], log: &[u8]) -> Vec<bool> {
     let (mut work, mut verdicts) = (vec![0; WORK_BYTES], vec![0; VERDICT_BYTES]);
-    let lines = check_log(rule, log, &mut work, &mut verdicts).unwrap_or_else(LogRefused::lines);
+    let lines = check_log(Layout::Square, rule, log, &mut work, &mut verdicts).unwrap_or_else(LogRefused::lines);
     verdicts[..usize::from(lines)].iter().map(|verdict| *verdict == 1).collect()
 }
 
@@ -59,7 +59,7 @@ fn changes(verdicts: &[bool]) -> usize {
 fn the_three_agree_on_generated_cases() {
     let (mut holds, mut fails) = (0, 0);
     for seed in 0..600 {
-        let case = case(seed);
+        let case = case(reference::Layout::Square, seed);
         if read_rule(&case.rule).is_ok() {
             let verdicts = agreed_verdicts(&case.rule, &case.log, &format!("seed {seed}"));
             holds += verdicts.iter().filter(|verdict| **verdict).count();

@@ -1,17 +1,22 @@
 //! An earlier version of the library, loaded beside the present one, so that both are measured in one run.
 //!
-//! SCENE_LOG_EARLIER in the environment names a shared object made of its archive; `scripts/earlier` makes one. The
-//! present version is loaded in the same way: where code stands in memory changes its time by up to a tenth, and
+//! SCENE_LOG_EARLIER in the environment names a shared object made of its archive; `scripts/earlier` makes one. Where
+//! its calls take no layout of a work area, as in versions that knew the square one alone, SCENE_LOG_EARLIER_NO_LAYOUT
+//! is set too, to anything, and they are called without. Both versions read logs in the square layout.
+//!
+//! The present version is loaded in the same way: where code stands in memory changes its time by up to a tenth, and
 //! linked into this program it stands elsewhere with every change of the program.
 
+use scene_log::{Layout, VERDICT_BYTES, WORK_BYTES};
 use std::ffi::{c_char, c_int, c_void, CStr, CString};
 use std::os::unix::ffi::OsStrExt;
 use std::path::{Path, PathBuf};
 use std::process::Command;
 use std::sync::atomic::{AtomicU32, Ordering};
-use std::{env, fs, mem, process};
+use std::{env, fs, mem, process, ptr};
 
 pub const VARIABLE: &str = "SCENE_LOG_EARLIER";
+const NO_LAYOUT: &str = "SCENE_LOG_EARLIER_NO_LAYOUT";
 
 const RTLD_LOCAL: c_int = 0;
 const RTLD_NOW: c_int = 2;
@@ -24,7 +29,22 @@ extern "C" {
 
 type Relate = unsafe extern "C" fn(*const u8, usize, u32, u32) -> u32;
 type CheckLog =
+    unsafe extern "C" fn(u32, *const u8, usize, *const u8, usize, *mut u8, usize, *mut u8, usize) -> u32;
+type CheckLogWithoutLayout =
     unsafe extern "C" fn(*const u8, usize, *const u8, usize, *mut u8, usize, *mut u8, usize) -> u32;
+
+/// What the calls of a version take that are lent a work area.
+#[derive(Clone, Copy, PartialEq)]
+enum Takes {
+    Layout,
+    NoLayout,
+}
+
+/// The call that reads a whole log, as a version has it.
+enum ReadLog {
+    WithLayout(CheckLog),
+    WithoutLayout(CheckLogWithoutLayout),
+}
 
 /// The two libraries.
 pub struct Libraries {
@@ -38,7 +58,12 @@ impl Libraries {
         let Some(path) = env::var_os(VARIABLE) else {
             return Ok(None);
         };
-        let earlier = Library::load(Path::new(&path)).map_err(|why| format!("{VARIABLE}: {why}"))?;
+        let takes = if env::var_os(NO_LAYOUT).is_some() { Takes::NoLayout } else { Takes::Layout };
+        let earlier = Library::load(Path::new(&path), takes).map_err(|why| format!("{VARIABLE}: {why}"))?;
+        if !earlier.is_called_right() {
+            let what = if takes == Takes::Layout { "take no layout, set" } else { "take a layout, unset" };
+            return Err(format!("{VARIABLE}: the calls are other ones; if they {what} {NO_LAYOUT}"));
+        }
         Ok(Some(Libraries { now: Library::present()?, earlier }))
     }
 }
@@ -46,7 +71,7 @@ impl Libraries {
 /// The calls of a library that are measured, as `include/scene_log.h` has them. It stays loaded to the end.
 pub struct Library {
     relate: Relate,
-    check_log: CheckLog,
+    check_log: ReadLog,
 }
 
 impl Library {
@@ -61,13 +86,13 @@ impl Library {
         if !output.status.success() {
             return Err(format!("gcc makes no shared object: {}", String::from_utf8_lossy(&output.stderr)));
         }
-        let library = Library::load(&object);
+        let library = Library::load(&object, Takes::Layout);
         fs::remove_file(&object).map_err(|error| error.to_string())?;
         library
     }
 
     /// The library in this file.
-    fn load(path: &Path) -> Result<Library, String> {
+    fn load(path: &Path, takes: Takes) -> Result<Library, String> {
         // A whole path: dlopen looks for a name without a slash in the system's folders.
         let path = fs::canonicalize(path).map_err(|error| format!("{}: {error}", path.display()))?;
         let file = CString::new(path.as_os_str().as_bytes()).expect("a path has no byte 0");
@@ -78,13 +103,17 @@ impl Library {
         }
         let relate = call_of(library, c"scene_log_relate")?;
         let check_log = call_of(library, c"scene_log_check_log")?;
-        // Safe: every version that has these calls has them with these arguments.
-        unsafe {
-            Ok(Library {
-                relate: mem::transmute::<*mut c_void, Relate>(relate),
-                check_log: mem::transmute::<*mut c_void, CheckLog>(check_log),
-            })
-        }
+        // Safe: every version that has these calls has them with these arguments, and with a layout or without.
+        let check_log = unsafe {
+            match takes {
+                Takes::Layout => ReadLog::WithLayout(mem::transmute::<*mut c_void, CheckLog>(check_log)),
+                Takes::NoLayout => {
+                    ReadLog::WithoutLayout(mem::transmute::<*mut c_void, CheckLogWithoutLayout>(check_log))
+                }
+            }
+        };
+        let relate = unsafe { mem::transmute::<*mut c_void, Relate>(relate) };
+        Ok(Library { relate, check_log })
     }
 
     /// The answer of relating two runs of a record: the relation's number, or a refusal, from 65,536 on.
@@ -93,21 +122,42 @@ impl Library {
         unsafe { (self.relate)(record.as_ptr(), record.len(), first, second) }
     }
 
-    /// The answer of reading a whole log: the number of its lines, or a refusal, from 65,536 on.
+    /// The answer of reading a whole log in the square layout: the number of its lines, or a refusal, from 65,536 on.
     pub fn check_log(&self, rule: &[u8], log: &[u8], work: &mut [u8], verdicts: &mut [u8]) -> u32 {
+        let (work, verdicts) = ((work.as_mut_ptr(), work.len()), (verdicts.as_mut_ptr(), verdicts.len()));
         // Safe: each pointer comes with the length of its own slice, and `&mut` slices do not overlap others.
-        unsafe {
-            (self.check_log)(
-                rule.as_ptr(),
-                rule.len(),
-                log.as_ptr(),
-                log.len(),
-                work.as_mut_ptr(),
-                work.len(),
-                verdicts.as_mut_ptr(),
-                verdicts.len(),
-            )
+        unsafe { self.check_log_at((rule.as_ptr(), rule.len()), (log.as_ptr(), log.len()), work, verdicts) }
+    }
+
+    /// The same on buffers that are each a pointer and a length.
+    unsafe fn check_log_at(
+        &self,
+        (rule, rule_length): (*const u8, usize),
+        (log, log_length): (*const u8, usize),
+        (work, work_length): (*mut u8, usize),
+        (verdicts, verdicts_length): (*mut u8, usize),
+    ) -> u32 {
+        match self.check_log {
+            ReadLog::WithLayout(call) => {
+                let layout = Layout::Square.number();
+                call(layout, rule, rule_length, log, log_length, work, work_length, verdicts, verdicts_length)
+            }
+            ReadLog::WithoutLayout(call) => {
+                call(rule, rule_length, log, log_length, work, work_length, verdicts, verdicts_length)
+            }
         }
+    }
+
+    /// Whether a layout is handed over exactly if the library's calls take one. A rule of no bytes is refused with 1. A
+    /// library whose calls are others has the address in place of a length, which is too short, or in place of a layout,
+    /// which it is not: 20.
+    fn is_called_right(&self) -> bool {
+        let nowhere: *mut u8 = ptr::without_provenance_mut(8);
+        // Safe: neither refusal looks at a byte of a buffer.
+        let answer = unsafe {
+            self.check_log_at((nowhere, 0), (nowhere, 0), (nowhere, WORK_BYTES), (nowhere, VERDICT_BYTES))
+        };
+        answer == 1 << 16
     }
 }
 
@@ -142,36 +192,72 @@ pub mod tests {
     use crate::logs::{begins_first, interleaved};
     use crate::rules::two_nodes;
     use crate::LABELS;
-    use scene_log::{Refusal, Relation, VERDICT_BYTES, WORK_BYTES};
+    use scene_log::{Refusal, Relation};
     use std::io::Write;
     use std::process::Stdio;
 
     /// The library in a shared object of this text in C.
-    fn library_of(text: &str) -> Result<Library, String> {
+    fn library_of(text: &str, takes: Takes) -> Result<Library, String> {
         let object = temporary_object();
         let mut gcc = Command::new("gcc");
         gcc.args(["-shared", "-fPIC", "-o"]).arg(&object).args(["-x", "c", "-"]).stdin(Stdio::piped());
         let mut child = gcc.spawn().expect("gcc can be run: this test makes shared objects with it");
         child.stdin.take().unwrap().write_all(text.as_bytes()).unwrap();
         assert!(child.wait().unwrap().success());
-        let library = Library::load(&object);
+        let library = Library::load(&object, takes);
         fs::remove_file(&object).unwrap();
         library
     }
 
     const RELATE: &str = "unsigned scene_log_relate(const char *r, unsigned long a, unsigned x, unsigned y)";
-    const CHECK_LOG: &str = "unsigned scene_log_check_log(const char *r, unsigned long a, const char *l, \
-        unsigned long b, char *w, unsigned long c, char *v, unsigned long d)";
+    const CHECK_LOG: &str = "unsigned scene_log_check_log(unsigned k, const char *r, unsigned long a, \
+        const char *l, unsigned long b, char *w, unsigned long c, char *v, unsigned long d)";
+    const CHECK_LOG_WITHOUT_LAYOUT: &str = "unsigned scene_log_check_log(const char *r, unsigned long a, \
+        const char *l, unsigned long b, char *w, unsigned long c, char *v, unsigned long d)";
 
     /// A library whose calls answer these numbers and write nothing.
     pub fn library_that_answers(relate: u32, check_log: u32) -> Library {
         let text = format!("{RELATE} {{ return {relate}; }}\n{CHECK_LOG} {{ return {check_log}; }}");
-        library_of(&text).unwrap()
+        library_of(&text, Takes::Layout).unwrap()
+    }
+
+    /// What is handed over arrives: a rule of 1 byte, a log of 2, a work area of 3, 4 verdict bytes; and the square
+    /// layout where one is taken.
+    #[test]
+    fn a_library_is_called_with_a_layout_or_without() {
+        let body = "{ w[2] = *r; v[3] = l[1]; return a + 10 * b + 100 * c + 1000 * d";
+        for (head, layout, takes) in [
+            (CHECK_LOG, "+ 10000 * (k + 1)", Takes::Layout),
+            (CHECK_LOG_WITHOUT_LAYOUT, "+ 20000", Takes::NoLayout),
+        ] {
+            let library = library_of(&format!("{RELATE} {{ return 1; }}\n{head} {body} {layout}; }}"), takes).unwrap();
+            let (mut work, mut verdicts) = ([7; 3], [7; 4]);
+            let answer = library.check_log(&[5], &[0, 6], &mut work, &mut verdicts);
+            assert_eq!(answer, if takes == Takes::Layout { 14_321 } else { 24_321 });
+            assert_eq!((work, verdicts), ([7, 7, 5], [7, 7, 7, 6]));
+        }
+    }
+
+    /// Two libraries that refuse short buffers with 20, and then a rule of no bytes with 1.
+    #[test]
+    fn a_library_that_is_called_wrong_is_noticed() {
+        let refusals = "if (c < 16384 || d < 256) return 20 << 16; return a < 1 ? 1 << 16 : 0; }";
+        let with_layout = format!("{RELATE} {{ return 1; }}\n{CHECK_LOG} {{ if (k > 1) return 20 << 16; {refusals}");
+        let without = format!("{RELATE} {{ return 1; }}\n{CHECK_LOG_WITHOUT_LAYOUT} {{ {refusals}");
+        for (text, takes, is_right) in [
+            (&with_layout, Takes::Layout, true),
+            (&with_layout, Takes::NoLayout, false),
+            (&without, Takes::Layout, false),
+            (&without, Takes::NoLayout, true),
+        ] {
+            assert_eq!(library_of(text, takes).unwrap().is_called_right(), is_right, "{text}");
+        }
     }
 
     #[test]
     fn a_shared_object_of_the_archive_answers_as_the_library_does() {
         let library = Library::present().unwrap();
+        assert!(library.is_called_right());
         for log in [interleaved(9, &LABELS), begins_first(9, &LABELS)] {
             let record = log.record();
             for (one, other) in (0..100).map(|pair| (pair / 10, pair % 10)) {
@@ -183,7 +269,8 @@ pub mod tests {
             let mut left = (vec![7; WORK_BYTES], vec![7; VERDICT_BYTES]);
             let mut left_now = left.clone();
             assert_eq!(library.check_log(&rule, &log.bytes, &mut left.0, &mut left.1), 18);
-            assert_eq!(scene_log::check_log(&rule, &log.bytes, &mut left_now.0, &mut left_now.1), Ok(18));
+            let answer = scene_log::check_log(Layout::Square, &rule, &log.bytes, &mut left_now.0, &mut left_now.1);
+            assert_eq!(answer, Ok(18));
             assert!(left == left_now);
             // A line without LF as the 19th, and the number of its refusal.
             let log = [&log.bytes[..], b"B 99"].concat();
@@ -194,11 +281,12 @@ pub mod tests {
     #[test]
     fn what_is_no_library_is_named_with_what_is_wrong() {
         let message = |library: Result<Library, String>| library.err().expect("no library");
-        assert!(message(Library::load(Path::new("no/such.so"))).starts_with("no/such.so: "));
+        let load = |path: &str| Library::load(Path::new(path), Takes::Layout);
+        assert!(message(load("no/such.so")).starts_with("no/such.so: "));
         let text = concat!(env!("CARGO_MANIFEST_DIR"), "/Cargo.toml");
-        assert!(message(Library::load(Path::new(text))).contains("bench/Cargo.toml: "));
-        assert!(message(library_of("int other;")).contains("scene_log_relate"));
+        assert!(message(load(text)).contains("bench/Cargo.toml: "));
+        assert!(message(library_of("int other;", Takes::Layout)).contains("scene_log_relate"));
         let relate_alone = format!("{RELATE} {{ return 1; }}");
-        assert!(message(library_of(&relate_alone)).contains("scene_log_check_log"));
+        assert!(message(library_of(&relate_alone, Takes::Layout)).contains("scene_log_check_log"));
     }
 }

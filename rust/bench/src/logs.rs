@@ -17,7 +17,7 @@
 
 use crate::rules::two_nodes;
 use generate::random::Random;
-use scene_log::{check_log_record, RECORD_BYTES, VERDICT_BYTES, WORK_BYTES};
+use scene_log::{check_log_record, Layout, RECORD_BYTES, VERDICT_BYTES, WORK_BYTES};
 use std::fmt::Write;
 
 /// The most runs of a log.
@@ -35,7 +35,8 @@ impl Log {
     /// The record that the log leaves, which is the same with any rule.
     pub fn record(&self) -> Vec<u8> {
         let (mut record, mut work, mut verdicts) = (vec![0; RECORD_BYTES], vec![0; WORK_BYTES], vec![0; VERDICT_BYTES]);
-        let lines = check_log_record(&two_nodes().file, &self.bytes, &mut record, &mut work, &mut verdicts);
+        let rule = two_nodes().file;
+        let lines = check_log_record(Layout::Square, &rule, &self.bytes, &mut record, &mut work, &mut verdicts);
         assert_eq!(lines.map(usize::from), Ok(2 * self.runs));
         record
     }

@@ -3,7 +3,7 @@
 use crate::logs::Log;
 use crate::trace::Trace;
 use reference::rule::Rule;
-use scene_log::{check_line, check_log, Check, VERDICT_BYTES, WORK_BYTES};
+use scene_log::{check_line, check_log, Check, Layout, VERDICT_BYTES, WORK_BYTES};
 use std::hint::black_box;
 use std::time::{Duration, Instant};
 
@@ -48,7 +48,7 @@ pub fn whole_log(rule: &[u8], log: &Log) -> (f64, Vec<bool>) {
 
 fn whole_log_times(rule: &[u8], log: &Log, buffers: &mut (Vec<u8>, Vec<u8>)) -> Vec<f64> {
     repeats(buffers, |_| {}, |(work, verdicts)| {
-        let answer = check_log(rule, &log.bytes, work, verdicts);
+        let answer = check_log(Layout::Square, rule, &log.bytes, work, verdicts);
         assert_eq!(answer.map(usize::from), Ok(2 * log.runs));
     })
 }
@@ -64,10 +64,10 @@ pub fn single_line(rule: &[u8], two_nodes: &[u8], log: &Log) -> f64 {
     }
     let restore = |now: &mut Check| {
         now.record.copy_from_slice(&*check.record);
-        now.work.copy_from_slice(&*check.work);
+        now.work.copy_from_slice(&check.work);
     };
     let call = |now: &mut Check| {
-        check_line(rule, &mut *now.record, &mut *now.work, last).expect("an accepted line");
+        check_line(Layout::Square, rule, &mut *now.record, &mut now.work, last).expect("an accepted line");
     };
     repeats(&mut check.clone(), restore, call)[0]
 }
@@ -101,6 +101,11 @@ fn seconds_below<const BYTES: usize>(steps: usize, take: &dyn Fn() -> f64) -> f6
 /// The shortest times of two calls that take turns: each goes first in every other round. A call takes longer where the
 /// stack stands badly in its page, and that is not the same place for both; so it is moved after every two rounds.
 pub fn in_turns(one: impl Fn(), other: impl Fn()) -> (f64, f64) {
+    timed_in_turns(|| seconds_of(&one), || seconds_of(&other))
+}
+
+/// The same of two calls that take their own time, so that what they prepare is not in it.
+pub fn timed_in_turns(one: impl Fn() -> f64, other: impl Fn() -> f64) -> (f64, f64) {
     let begin = Instant::now();
     let (mut shortest, mut shortest_other) = (f64::INFINITY, f64::INFINITY);
     let mut place = 0;
@@ -109,10 +114,10 @@ pub fn in_turns(one: impl Fn(), other: impl Fn()) -> (f64, f64) {
         let below = |take: &dyn Fn() -> f64| {
             seconds_below::<16>(place / STEPS % STEPS, &|| seconds_below::<32>(place % STEPS, take))
         };
-        shortest = shortest.min(below(&|| seconds_of(&one)));
-        shortest_other = shortest_other.min(below(&|| seconds_of(&other)));
-        shortest_other = shortest_other.min(below(&|| seconds_of(&other)));
-        shortest = shortest.min(below(&|| seconds_of(&one)));
+        shortest = shortest.min(below(&one));
+        shortest_other = shortest_other.min(below(&other));
+        shortest_other = shortest_other.min(below(&other));
+        shortest = shortest.min(below(&one));
         place += 1;
     }
     (shortest, shortest_other)

@@ -8,7 +8,7 @@ use crate::measure::in_turns;
 use crate::rules::two_nodes;
 use crate::table::{seconds, short, Number};
 use crate::LABELS;
-use scene_log::{check_log, VERDICT_BYTES, WORK_BYTES};
+use scene_log::{check_log, Layout, VERDICT_BYTES, WORK_BYTES};
 use std::cell::RefCell;
 use std::hint::black_box;
 
@@ -52,7 +52,7 @@ impl Reader<'_> {
     /// How many lines are taken; none where one is refused.
     fn read(self, rule: &[u8], log: &Log, work: &mut [u8], verdicts: &mut [u8]) -> Option<u32> {
         match self {
-            Reader::Linked => check_log(rule, &log.bytes, work, verdicts).ok().map(u32::from),
+            Reader::Linked => check_log(Layout::Square, rule, &log.bytes, work, verdicts).ok().map(u32::from),
             Reader::Loaded(library) => {
                 let answer = library.check_log(rule, &log.bytes, work, verdicts);
                 (answer < 1 << 16).then_some(answer)

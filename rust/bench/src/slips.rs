@@ -10,7 +10,7 @@ use crate::table::{seconds, short, Number};
 use crate::{measure, LABELS};
 use reference::rule::read_rule;
 use reference::slip::form_of;
-use scene_log::{slip_passes, write_first_slip, Refusal, SLIP_BYTES, VERDICT_BYTES, WORK_BYTES};
+use scene_log::{slip_passes, write_first_slip, Layout, Refusal, SLIP_BYTES, VERDICT_BYTES, WORK_BYTES};
 use worst::{searched, worst, LAST};
 
 /// On the properties of the paper, finding and passing as multiples of the whole-log call with the two-node rule.
@@ -93,7 +93,7 @@ fn slow_rules(log: &Log) -> Vec<Case> {
                 let _ = write_first_slip(&file, &record, &mut [0; SLIP_BYTES]);
             });
             let whole = seconds_of(|| {
-                let _ = scene_log::check_log(&file, &log.bytes, &mut work, &mut verdicts);
+                let _ = scene_log::check_log(Layout::Square, &file, &log.bytes, &mut work, &mut verdicts);
             });
             (finding, finding / whole, seed)
         })

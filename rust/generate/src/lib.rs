@@ -1,15 +1,18 @@
 //! Seeded cases for the check: rule files, logs, records and lent buffers, sound and
 //! damaged in every way that the paper has a refusal for.
 //!
-//! `case(seed)` gives the input of every call. `reference_answers(&case)` gives what
-//! the reference answers and leaves in each buffer. To hold another implementation
-//! against the reference, give it the same case and compare with the answers.
+//! `case(layout, seed)` gives the input of every call, of which those that are lent a work
+//! area name this layout. `reference_answers(&case)` gives what the reference answers and
+//! leaves in each buffer. To hold another implementation against the reference, give it
+//! the same case and compare with the answers. The cases of a seed in either layout
+//! differ in their work areas alone.
 //!
 //! `texts` has cases of its own for rules typed by hand: `text_case(seed)` for reading a
 //! text, `rule_case(seed)` for writing one. `slips` has those for the runs that break a
 //! rule: `slip_case(seed)`. `positions` has those for where two runs start and finish:
 //! `position_case(seed)`.
 
+pub mod areas;
 pub mod logs;
 pub mod positions;
 pub mod random;
@@ -19,6 +22,7 @@ pub mod slips;
 pub mod texts;
 pub mod typed;
 
+use areas::{area_of, lent_area, Fault};
 use random::Random;
 use reference::calls::{
     check_line, check_line_with_tally, check_log, compose, converse, counts_of, next_line, relation_between,
@@ -26,11 +30,11 @@ use reference::calls::{
 };
 use reference::formula::Formula;
 use reference::line::Event;
-use reference::record::{lines_of, pair_bytes, record_of, Record};
+use reference::record::{lines_of, record_of, Record};
 use reference::report::report;
 use reference::rule::{read_rule, Rule};
 use reference::trace::accepted_lines;
-use reference::{Refusal, PAIR_BYTES, VERDICT_BYTES};
+use reference::{Layout, Refusal, VERDICT_BYTES};
 
 /// The input of every call.
 #[derive(Clone, PartialEq, Eq, Debug)]
@@ -38,6 +42,9 @@ pub struct Case {
     pub seed: u64,
     /// What the log is meant to be; for messages.
     pub kind: &'static str,
+    /// The layout that the calls name, and what is wrong with `work`.
+    pub layout: Layout,
+    pub fault: Fault,
 
     /// The program and the whole-log call: the rule file, the log, the two buffers.
     pub rule: Vec<u8>,
@@ -105,8 +112,8 @@ const LITTLE_WORK: u64 = 100_000;
 const MUCH_WORK: u64 = 25_000_000;
 const MUCH_WORK_IN: usize = 5;
 
-/// The case of this seed.
-pub fn case(seed: u64) -> Case {
+/// The case of this seed in this layout.
+pub fn case(layout: Layout, seed: u64) -> Case {
     let random = &mut Random::new(seed);
     let rule_labels = some_labels(random);
     let log = logs::any_log(random, &rule_labels);
@@ -123,25 +130,28 @@ pub fn case(seed: u64) -> Case {
     let before = &accepted[..lines];
     let line = logs::next_line(random, before, &rule_labels);
     let mut record = record_of(before);
-    let mut work = pair_bytes(&record);
     let mut tally = counts_of(before);
     tally.failing = random.below(lines + 1) as u64;
-    damage_some(random, &mut record, &mut work, &mut tally);
+    let (paired, fault) = damage_some(random, &mut record, &mut tally);
+    // The work areas have a random source of their own, so that all else is the same in either layout.
+    let areas = &mut Random::new(random.number());
 
     Case {
         seed,
         kind: log.kind,
+        layout,
+        fault,
         rule: file,
-        log_work: lent_buffer(random, PAIR_BYTES),
+        log_work: lent_area(areas, layout),
         verdicts: lent_buffer(random, VERDICT_BYTES),
         place: random.below(log.bytes.len() + 50),
         log: log.bytes,
         runs: two_runs(random, &record),
         record,
-        work,
+        work: area_of(areas, layout, &paired, fault),
         tally,
         line,
-        start_work: lent_buffer(random, PAIR_BYTES),
+        start_work: lent_area(areas, layout),
         sets: (any_set(random), any_set(random)),
     }
 }
@@ -150,14 +160,15 @@ pub fn case(seed: u64) -> Case {
 pub fn reference_answers(case: &Case) -> Answers {
     let mut log_work = case.log_work.clone();
     let mut verdicts = case.verdicts.clone();
-    let log = check_log(&case.rule, &case.log, &mut log_work, &mut verdicts);
+    let log = check_log(case.layout, &case.rule, &case.log, &mut log_work, &mut verdicts);
     let mut line_work = case.work.clone();
-    let line = check_line(&case.rule, &case.record, &mut line_work, &case.line);
+    let line = check_line(case.layout, &case.rule, &case.record, &mut line_work, &case.line);
     let mut tally_work = case.work.clone();
     let mut tally = case.tally;
-    let tally_line = check_line_with_tally(&case.rule, &case.record, &mut tally_work, &mut tally, &case.line);
+    let tally_line =
+        check_line_with_tally(case.layout, &case.rule, &case.record, &mut tally_work, &mut tally, &case.line);
     let mut start_work = case.start_work.clone();
-    let start = start_record(&mut start_work);
+    let start = start_record(case.layout, &mut start_work);
     Answers {
         report: report(&case.rule, &case.log),
         log,
@@ -265,40 +276,39 @@ fn rule_file(random: &mut Random, rule: &Rule) -> Vec<u8> {
     }
 }
 
-/// Spoils the record, the pair bytes or the tally, or lends a short work area, in about
-/// two of three cases.
-fn damage_some(random: &mut Random, record: &mut Record, work: &mut Vec<u8>, tally: &mut Tally) {
-    // Bytes past the pair bytes, which no call changes.
-    let length = random.below(6);
-    work.extend(random.bytes(length));
-    match random.below(20) {
+/// Spoils the record or the tally, or has something wrong with the work area, in about two
+/// of three cases. Answers the record whose pair bytes the work area has, and what is wrong
+/// with it.
+fn damage_some(random: &mut Random, record: &mut Record, tally: &mut Tally) -> (Record, Fault) {
+    let mut paired = record.clone();
+    let mut fault = Fault::None;
+    match random.below(22) {
         0..=4 => {
             for _ in 0..random.between(1, 2) {
                 records::damage_record(random, record);
             }
             // If another real record came out, give it its own pair bytes half of the time.
             if random.chance(1, 2) && lines_of(record).is_some() {
-                work[..PAIR_BYTES].copy_from_slice(&pair_bytes(record));
+                paired = record.clone();
             }
         }
-        5..=6 => records::damage_pair_bytes(random, work),
+        5..=6 => fault = Fault::Byte,
         7..=9 => records::damage_tally(random, tally),
         10 => {
             if random.chance(1, 2) {
                 records::damage_record(random, record);
             } else {
-                records::damage_pair_bytes(random, work);
+                fault = Fault::Byte;
             }
             records::damage_tally(random, tally);
         }
-        11 => {
-            let length = *random.pick(&[0, 1, 8128, PAIR_BYTES - 1]);
-            work.truncate(length);
-        }
+        11 => fault = Fault::Short,
         // Ids have no part in the pair bytes, which stay the record's own.
         12 => records::share_any_id(random, record),
+        13..=14 => fault = Fault::Layout,
         _ => {}
     }
+    (paired, fault)
 }
 
 /// A buffer of at least this length, but for a few that are short; filled with anything.

@@ -1,4 +1,4 @@
-//! Records, pair bytes and tallies with one field or more spoiled.
+//! Records and tallies with one field or more spoiled.
 //!
 //! Every value fits in 16 bits (ids and lines), 8 bits (label numbers, lengths,
 //! places) or 32 bits (tally counts), so that a record with narrower fields can hold it.
@@ -134,29 +134,6 @@ pub fn damage_record(random: &mut Random, record: &mut Record) {
         17 => record.lines = near(random, record.lines).min(65535),
         _ => share_any_id(random, record),
     }
-}
-
-/// Changes one pair byte, mostly one that two runs have.
-pub fn damage_pair_bytes(random: &mut Random, work: &mut [u8]) {
-    let limit = work.len().min(reference::PAIR_BYTES);
-    if limit == 0 {
-        return;
-    }
-    let at = match random.below(5) {
-        0 => random.below(limit),
-        1 => limit - 1,
-        2 => (129 * random.below(128)).min(limit - 1),
-        _ => {
-            let used: Vec<usize> = (0..limit).filter(|at| work[*at] != 0).collect();
-            if used.is_empty() { 1 } else { *random.pick(&used) }
-        }
-    };
-    let at = at.min(limit - 1);
-    work[at] = match random.below(3) {
-        0 => work[at] ^ 1,
-        1 => random.below(9) as u8,
-        _ => random.byte(),
-    };
 }
 
 /// Changes one count, or all.

@@ -1,36 +1,65 @@
 //! The cases reach every refusal, and the reference agrees with itself on them.
 
+use generate::areas::{places_not_begun, Fault};
 use generate::logs::{faulty_line, LINE_REFUSALS};
 use generate::random::Random;
 use generate::records::{share_id, sharings, Sharing, SHARINGS};
 use generate::{case, reference_answers, rule_refusal, Case};
-use reference::calls::{check_line_with_tally, finished_runs, start_record, Tally};
+use reference::calls::{check_line, check_line_with_tally, finished_runs, start_record, Tally};
 use reference::formula::Formula;
 use reference::line::{read_line, Event};
-use reference::record::{first_place, lines_of, record_of};
+use reference::record::{first_place, lines_of, pair_bytes, record_of};
 use reference::rule::read_rule;
 use reference::trace::{accepted_lines, judge_line, labels_of, runs_of, Run};
-use reference::{MAX_LABELS, MAX_RUNS, PAIR_BYTES, VERDICT_BYTES};
+use reference::{Layout, MAX_LABELS, MAX_RUNS, VERDICT_BYTES};
 use std::collections::{BTreeMap, BTreeSet};
 
 const CASES: u64 = 4000;
 
+/// The lengths of work areas about both sizes.
+const LENGTHS: [usize; 6] = [8127, 8128, 8131, 16383, 16384, 16387];
+
 #[test]
 fn a_seed_always_gives_the_same_case() {
-    for seed in 0..50 {
-        assert_eq!(case(seed), case(seed));
+    for (seed, layout) in in_both(0..50) {
+        assert_eq!(case(layout, seed), case(layout, seed));
     }
-    assert_ne!(case(1), case(2));
+    for layout in Layout::ALL {
+        assert_ne!(case(layout, 1), case(layout, 2));
+    }
+}
+
+/// Each seed in either layout.
+fn in_both(seeds: std::ops::Range<u64>) -> impl Iterator<Item = (u64, Layout)> {
+    seeds.flat_map(|seed| Layout::ALL.map(|layout| (seed, layout)))
+}
+
+/// The case of a seed, where the layout has no part in what is looked at.
+fn case_of(seed: u64) -> Case {
+    case(Layout::Square, seed)
+}
+
+#[test]
+fn the_cases_of_a_seed_differ_in_layout_and_work_areas_alone() {
+    for seed in 0..CASES {
+        let (square, half) = (case(Layout::Square, seed), case(Layout::Half, seed));
+        let Case { log_work, work, start_work, .. } = square.clone();
+        assert_eq!(Case { layout: Layout::Square, log_work, work, start_work, ..half }, square, "seed {seed}");
+    }
 }
 
 /// Every number of the list is reached, and every one that the program can print is
 /// printed.
 #[test]
 fn every_refusal_number_is_reached() {
+    Layout::ALL.into_iter().for_each(every_refusal_number_is_reached_in);
+}
+
+fn every_refusal_number_is_reached_in(layout: Layout) {
     let mut answered: BTreeMap<u8, u64> = BTreeMap::new();
     let mut printed: BTreeMap<u8, u64> = BTreeMap::new();
     for seed in 0..CASES {
-        let answers = reference_answers(&case(seed));
+        let answers = reference_answers(&case(layout, seed));
         for number in answers.refusals() {
             *answered.entry(number).or_default() += 1;
         }
@@ -39,7 +68,7 @@ fn every_refusal_number_is_reached() {
             *printed.entry(number.parse().unwrap()).or_default() += 1;
         }
     }
-    println!("answered {answered:?}");
+    println!("{layout:?}: answered {answered:?}");
     println!("printed {printed:?}");
     let numbers: Vec<u8> = answered.keys().copied().collect();
     assert_eq!(numbers, (1..=24).collect::<Vec<u8>>());
@@ -49,6 +78,170 @@ fn every_refusal_number_is_reached() {
     for (number, times) in answered.iter().chain(&printed) {
         assert!(*times >= 10, "{number}: {times}");
     }
+}
+
+/// Each call is lent a work area of each of the lengths about both sizes, and of others, in either layout.
+#[test]
+fn work_areas_of_every_length_are_lent() {
+    let mut lent: BTreeMap<(Layout, &str, Option<usize>), u64> = BTreeMap::new();
+    for (seed, layout) in in_both(0..CASES) {
+        let Case { log_work, work, start_work, .. } = case(layout, seed);
+        for (call, length) in [("log", log_work.len()), ("line", work.len()), ("start", start_work.len())] {
+            let known = LENGTHS.contains(&length).then_some(length);
+            *lent.entry((layout, call, known)).or_default() += 1;
+        }
+    }
+    println!("{lent:?}");
+    for layout in Layout::ALL {
+        for call in ["log", "line", "start"] {
+            for length in LENGTHS.map(Some).into_iter().chain([None]) {
+                let count = lent.get(&(layout, call, length)).copied().unwrap_or(0);
+                assert!(count >= 10, "{layout:?}, {call}, {length:?}: {count}");
+            }
+        }
+        // Most areas are long enough, and many have just the layout's size.
+        assert!(lent[&(layout, "line", Some(layout.size()))] >= CASES / 3);
+    }
+}
+
+/// Which pair byte is changed in a work area that is otherwise its record's.
+#[derive(Clone, Copy, PartialEq, Eq, PartialOrd, Ord, Debug)]
+enum Changed {
+    /// One of two runs that have begun.
+    Begun,
+    /// The first byte of a run that has not, another of such runs, and the last of all.
+    FirstBehind,
+    Behind,
+    Last,
+    /// In the square, a byte that no pair has.
+    NoPair,
+}
+
+/// What the single-line call answers, and the work area that it leaves.
+fn line_answer(case: &Case) -> (Result<bool, u8>, Vec<u8>) {
+    let mut work = case.work.clone();
+    (check_line(case.layout, &case.rule, &case.record, &mut work, &case.line).verdict, work)
+}
+
+/// The only place within the layout's size where the area is not the record's.
+fn changed_place(case: &Case) -> Option<usize> {
+    let own = pair_bytes(case.layout, &case.record);
+    let places: Vec<usize> = (0..own.len()).filter(|place| case.work.get(*place) != Some(&own[*place])).collect();
+    if let [place] = places[..] { Some(place) } else { None }
+}
+
+fn changed_of(case: &Case, place: usize) -> Changed {
+    let (first, second) = case.layout.pairs()[place];
+    let behind = places_not_begun(case.layout, &case.record);
+    match behind.iter().position(|other| *other == place) {
+        None if first < second => Changed::Begun,
+        None => Changed::NoPair,
+        Some(0) => Changed::FirstBehind,
+        Some(at) if at + 1 == behind.len() && case.layout == Layout::Half => Changed::Last,
+        Some(_) => Changed::Behind,
+    }
+}
+
+/// In either layout one byte is changed in each part of the area, and 21 is met for that alone.
+#[test]
+fn areas_with_one_byte_changed_are_reached() {
+    let mut found: BTreeMap<(Layout, Changed), u64> = BTreeMap::new();
+    for (seed, layout) in in_both(0..2 * CASES) {
+        let case = case(layout, seed);
+        if case.fault != Fault::Byte || rule_refusal(&case).is_some() || lines_of(&case.record).is_none() {
+            continue;
+        }
+        if let Some(place) = changed_place(&case) {
+            assert_eq!(line_answer(&case).0, Err(21), "seed {seed}");
+            *found.entry((layout, changed_of(&case, place))).or_default() += 1;
+        }
+    }
+    println!("{found:?}");
+    use Changed::{Begun, Behind, FirstBehind, Last, NoPair};
+    let half = [Begun, FirstBehind, Behind, Last].map(|changed| (Layout::Half, changed));
+    let square = [Begun, FirstBehind, Behind, NoPair].map(|changed| (Layout::Square, changed));
+    assert_eq!(found.keys().copied().collect::<Vec<_>>(), [square, half].concat());
+    assert!(found.values().all(|count| *count >= 20));
+}
+
+/// What is met by an area of the other layout: 21 from two runs on, and with fewer a verdict or the line's refusal;
+/// also 20, where it is too short for the layout that is named.
+#[test]
+fn areas_of_the_other_layout_are_reached() {
+    let mut met: BTreeMap<(Layout, bool, &str), u64> = BTreeMap::new();
+    for (seed, layout) in in_both(0..2 * CASES) {
+        let case = case(layout, seed);
+        let is_other = case.fault == Fault::Layout && lines_of(&case.record).is_some();
+        if !is_other || rule_refusal(&case).is_some() {
+            continue;
+        }
+        let several = case.record.runs[1].begin != 0;
+        let answer = match line_answer(&case).0 {
+            Err(20) => "20",
+            Err(21) => "21",
+            _ => "the area is taken",
+        };
+        *met.entry((layout, several, answer)).or_default() += 1;
+    }
+    println!("{met:?}");
+    use Layout::{Half, Square};
+    let expected = [
+        (Square, false, "20"),
+        (Square, false, "21"),
+        (Square, false, "the area is taken"),
+        (Square, true, "20"),
+        (Square, true, "21"),
+        (Half, false, "the area is taken"),
+        (Half, true, "21"),
+    ];
+    assert_eq!(met.keys().copied().collect::<Vec<_>>(), expected);
+    assert!(met.values().all(|count| *count >= 10));
+}
+
+/// Areas that are their record's, with anything behind the pair bytes: zeros, and other bytes. The line is judged, and
+/// the bytes behind stay.
+#[test]
+fn bytes_behind_the_pair_bytes_are_anything() {
+    let mut found: BTreeMap<(Layout, &str), u64> = BTreeMap::new();
+    for (seed, layout) in in_both(0..CASES) {
+        let case = case(layout, seed);
+        let Some(behind) = case.work.get(layout.size()..).filter(|behind| !behind.is_empty()) else {
+            continue;
+        };
+        let (Ok(_), left) = line_answer(&case) else {
+            continue;
+        };
+        assert_eq!(&left[layout.size()..], behind, "seed {seed}");
+        let kind = if behind.iter().all(|byte| *byte == 0) { "zeros" } else { "others" };
+        *found.entry((layout, kind)).or_default() += 1;
+    }
+    println!("{found:?}");
+    assert_eq!(found.len(), 4);
+    assert!(found.values().all(|count| *count >= 100));
+}
+
+/// "give the same verdicts, refusals and relations": where no area is too short, all answers of the reference but the
+/// work areas are the same in either layout.
+#[test]
+fn the_reference_answers_the_same_in_either_layout() {
+    let (mut logs, mut lines) = (0, 0);
+    for seed in 0..CASES / 2 {
+        let cases = Layout::ALL.map(|layout| case(layout, seed));
+        let [square, half] = cases.clone().map(|case| reference_answers(&case));
+        assert_eq!(square.report, half.report, "seed {seed}");
+        if cases.iter().all(|case| case.log_work.len() >= case.layout.size()) {
+            assert_eq!((&square.log, &square.verdicts), (&half.log, &half.verdicts), "seed {seed}");
+            logs += 1;
+        }
+        // A byte that is changed may stand where the other layout has none.
+        if matches!(cases[0].fault, Fault::None) {
+            let left = |answers: &generate::Answers| (answers.line.clone(), answers.tally_line.clone(), answers.tally);
+            assert_eq!(left(&square), left(&half), "seed {seed}");
+            lines += 1;
+        }
+    }
+    println!("{logs} logs, {lines} lines");
+    assert!(logs >= CASES * 2 / 5 && lines >= CASES / 4);
 }
 
 /// How many "some" nodes lie one inside another.
@@ -68,7 +261,7 @@ fn full_logs_many_labels_and_common_first_places_are_reached() {
         (0, 0, 0, 0, 0, 0, 0);
     let (mut changing, mut comes_back, mut longest_logs, mut full_nested) = (0, 0, 0, 0);
     for seed in 0..CASES {
-        let case = case(seed);
+        let case = case_of(seed);
         let (accepted, _) = accepted_lines(&case.log);
         let labels = labels_of(&accepted);
         let begun = accepted.iter().filter(|event| matches!(event, Event::Begin { .. })).count();
@@ -112,7 +305,7 @@ fn ids_are_used_again_in_many_logs() {
     let (mut again, mut full, mut full_again, mut few, mut across) = (0, 0, 0, 0, 0);
     let mut kinds: BTreeMap<&str, u64> = BTreeMap::new();
     for seed in 0..CASES {
-        let case = case(seed);
+        let case = case_of(seed);
         let (accepted, _) = accepted_lines(&case.log);
         let runs = runs_of(&accepted);
         let ids: BTreeSet<u64> = runs.iter().map(|run| run.id).collect();
@@ -152,7 +345,7 @@ type Met = (Result<(), u8>, bool, bool, bool);
 fn every_refusal_is_met_by_ids_that_are_used_again() {
     let mut met: BTreeMap<Met, u64> = BTreeMap::new();
     for seed in 0..CASES {
-        let case = case(seed);
+        let case = case_of(seed);
         let (accepted, refusal) = accepted_lines(&case.log);
         let before: usize = case.log.split_inclusive(|byte| *byte == b'\n').take(accepted.len()).map(<[u8]>::len).sum();
         let refused = refusal.and_then(|_| case.log[before..].split_inclusive(|byte| *byte == b'\n').next());
@@ -190,7 +383,7 @@ fn a_faulty_line_meets_its_refusal_where_the_lines_before_it_allow_it() {
     let mut met: BTreeMap<u8, u64> = BTreeMap::new();
     for seed in 0..CASES {
         let random = &mut Random::new(seed);
-        let (accepted, _) = accepted_lines(&case(seed).log);
+        let (accepted, _) = accepted_lines(&case_of(seed).log);
         let lines = if random.chance(1, 2) { accepted.len() } else { random.below(accepted.len() + 1) };
         let before = &accepted[..lines];
         let runs = runs_of(before);
@@ -219,7 +412,7 @@ fn a_faulty_line_meets_its_refusal_where_the_lines_before_it_allow_it() {
 fn records_with_shared_ids_are_reached_that_lines_leave_and_that_none_leave() {
     let (mut both_open, mut open_then, mut changed_ids, mut refused) = (0, 0, 0, 0);
     for seed in 0..CASES {
-        let case = case(seed);
+        let case = case_of(seed);
         let found = sharings(&case.record);
         let is_real = lines_of(&case.record).is_some();
         if found.contains(&Sharing::BothOpen) || found.contains(&Sharing::OpenThen) {
@@ -277,8 +470,8 @@ fn report_from_single_lines(case: &Case) -> String {
     if let Some(number) = rule_refusal(case) {
         return format!("0 R{number}\n");
     }
-    let mut work = vec![0xA5; PAIR_BYTES];
-    let mut record = start_record(&mut work).unwrap();
+    let mut work = vec![0xA5; case.layout.size()];
+    let mut record = start_record(case.layout, &mut work).unwrap();
     let mut tally = Tally::default();
     let mut text = String::new();
     let mut place = 0;
@@ -292,7 +485,7 @@ fn report_from_single_lines(case: &Case) -> String {
             // The bytes of the window hold no LF, so the single-line call refuses them too.
             reference::calls::NextLine::Refused(_, at) => &case.log[at..case.log.len().min(at + 40)],
         };
-        let answer = check_line_with_tally(&case.rule, &record, &mut work, &mut tally, line);
+        let answer = check_line_with_tally(case.layout, &case.rule, &record, &mut work, &mut tally, line);
         record = answer.record;
         match answer.verdict {
             Ok(holds) => text += &format!("{} {}\n", tally.lines, if holds { "H" } else { "F" }),
@@ -307,15 +500,16 @@ fn report_from_single_lines(case: &Case) -> String {
 
 #[test]
 fn line_by_line_and_all_at_once_agree() {
-    for seed in 0..800 {
-        let case = case(seed);
+    for (seed, layout) in in_both(0..800) {
+        let case = case(layout, seed);
         if accepted_lines(&case.log).0.len() > 100 && seed % 16 != 0 {
             continue;
         }
         let answers = reference_answers(&case);
         let text = String::from_utf8(answers.report).unwrap();
         assert_eq!(text, report_from_single_lines(&case), "seed {seed}");
-        if case.log_work.len() >= PAIR_BYTES && case.verdicts.len() >= VERDICT_BYTES && rule_refusal(&case).is_none() {
+        let is_read = case.log_work.len() >= layout.size() && case.verdicts.len() >= VERDICT_BYTES;
+        if is_read && rule_refusal(&case).is_none() {
             for (line, byte) in text.lines().zip(&answers.verdicts) {
                 match line.chars().last().unwrap() {
                     'H' => assert_eq!(*byte, 1, "seed {seed}"),
@@ -330,7 +524,7 @@ fn line_by_line_and_all_at_once_agree() {
 #[test]
 fn log_bytes_past_8192_decide_nothing() {
     for seed in 0..CASES {
-        let case = case(seed);
+        let case = case_of(seed);
         if case.log.len() > 8192 {
             let whole = reference::report::report(&case.rule, &case.log);
             assert_eq!(whole, reference::report::report(&case.rule, &case.log[..8192]), "seed {seed}");
@@ -340,8 +534,8 @@ fn log_bytes_past_8192_decide_nothing() {
 
 #[test]
 fn a_refused_call_changes_no_lent_buffer() {
-    for seed in 0..CASES {
-        let case = case(seed);
+    for (seed, layout) in in_both(0..CASES / 2) {
+        let case = case(layout, seed);
         let answers = reference_answers(&case);
         if answers.line.verdict.is_err() {
             assert_eq!((&answers.line.record, &answers.line_work), (&case.record, &case.work));
@@ -363,7 +557,7 @@ fn a_refused_call_changes_no_lent_buffer() {
             (&case.start_work, &answers.start_work),
         ] {
             assert_eq!(before.len(), after.len());
-            assert_eq!(before.get(PAIR_BYTES..), after.get(PAIR_BYTES..));
+            assert_eq!(before.get(layout.size()..), after.get(layout.size()..));
         }
         assert_eq!(case.verdicts.get(VERDICT_BYTES..), answers.verdicts.get(VERDICT_BYTES..));
     }

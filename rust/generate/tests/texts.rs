@@ -7,6 +7,7 @@ use reference::formula::Formula;
 use reference::report::report;
 use reference::rule::read_rule;
 use reference::typed::{rule_file, rule_text};
+use reference::Layout;
 use std::collections::BTreeMap;
 
 const CASES: u64 = 20_000;
@@ -123,7 +124,7 @@ fn a_written_text_is_read_as_the_same_rule() {
 fn a_written_text_has_the_same_verdicts() {
     let (mut rules, mut lines) = (0, 0);
     for seed in 0..2_000 {
-        let case = case(seed);
+        let case = case(Layout::Square, seed);
         if let Ok(text) = rule_text(&case.rule) {
             let expected = report(&case.rule, &case.log);
             let again = rule_file(&text).unwrap();

@@ -4,6 +4,7 @@ extern "C" {
     pub fn scene_log_rule_from_text(text: *const u8, text_length: usize, rule: *mut u8, rule_length: usize) -> u32;
     pub fn scene_log_text_from_rule(rule: *const u8, rule_length: usize, text: *mut u8, text_length: usize) -> u32;
     pub fn scene_log_report(
+        layout: u32,
         rule: *const u8,
         rule_length: usize,
         log: *const u8,
@@ -16,6 +17,7 @@ extern "C" {
         text_length: usize,
     ) -> u32;
     pub fn scene_log_check_log(
+        layout: u32,
         rule: *const u8,
         rule_length: usize,
         log: *const u8,
@@ -26,6 +28,7 @@ extern "C" {
         verdicts_length: usize,
     ) -> u32;
     pub fn scene_log_check_log_record(
+        layout: u32,
         rule: *const u8,
         rule_length: usize,
         log: *const u8,
@@ -37,8 +40,15 @@ extern "C" {
         verdicts: *mut u8,
         verdicts_length: usize,
     ) -> u32;
-    pub fn scene_log_start(record: *mut u8, record_length: usize, work: *mut u8, work_length: usize) -> u32;
+    pub fn scene_log_start(
+        layout: u32,
+        record: *mut u8,
+        record_length: usize,
+        work: *mut u8,
+        work_length: usize,
+    ) -> u32;
     pub fn scene_log_check_line(
+        layout: u32,
         rule: *const u8,
         rule_length: usize,
         record: *mut u8,
@@ -49,6 +59,7 @@ extern "C" {
         line_length: usize,
     ) -> u32;
     pub fn scene_log_check_line_tallied(
+        layout: u32,
         rule: *const u8,
         rule_length: usize,
         record: *mut u8,

@@ -6,12 +6,12 @@
 //! A log at once, with the rule "some run is before another":
 //!
 //! ```
-//! use scene_log::{report, TEXT_BYTES, VERDICT_BYTES, WORK_BYTES};
+//! use scene_log::{report, Layout, TEXT_BYTES, VERDICT_BYTES, WORK_BYTES};
 //!
 //! let rule = b"RUL\x01\x00\x00\x03\x05\x00\x01\x03\x01\x00\x03\x00\x01";
 //! let log = b"B 1 EVENING\nE 1\nB 2 TEST\nE 2\n";
 //! let (mut work, mut verdicts, mut text) = ([0; WORK_BYTES], [0; VERDICT_BYTES], [0; TEXT_BYTES]);
-//! let length = report(rule, log, &mut work, &mut verdicts, &mut text)?;
+//! let length = report(Layout::Square, rule, log, &mut work, &mut verdicts, &mut text)?;
 //! assert_eq!(&text[..length], b"1 F\n2 F\n3 F\n4 H\nT 4 2 2 0 3\n");
 //! # Ok::<(), scene_log::Refusal>(())
 //! ```
@@ -29,6 +29,19 @@
 //! assert_eq!(check.line(rule, b"E 2\n")?, Verdict::Holds);
 //! assert_eq!(check.relate(0, 1)?, Relation::Before);
 //! # Ok::<(), scene_log::Refusal>(())
+//! ```
+//!
+//! A work area has one of two layouts, which every call that is lent one names. In the half layout it has 8,128 bytes
+//! instead of 16,384, and every answer is the same:
+//!
+//! ```
+//! use scene_log::{check_log, Layout, HALF_WORK_BYTES, VERDICT_BYTES};
+//!
+//! let rule = b"RUL\x01\x00\x00\x03\x05\x00\x01\x03\x01\x00\x03\x00\x01";
+//! let (mut work, mut verdicts) = ([0; HALF_WORK_BYTES], [0; VERDICT_BYTES]);
+//! assert_eq!(check_log(Layout::Half, rule, b"B 1\nE 1\nB 2\nE 2\n", &mut work, &mut verdicts)?, 4);
+//! assert_eq!(verdicts[..4], [0, 0, 0, 1]);
+//! # Ok::<(), scene_log::LogRefused>(())
 //! ```
 //!
 //! The rule may be typed, and is then made into a rule file:
@@ -52,11 +65,13 @@
 //! ```
 
 mod c;
+mod layout;
 mod refusal;
 mod relation;
 mod slip;
 mod typed;
 
+pub use layout::Layout;
 pub use refusal::{LogRefused, Refusal};
 pub use relation::{Relation, Relations};
 pub use slip::{first_slip, slip_passes, write_first_slip, Slip};
@@ -64,8 +79,9 @@ pub use typed::{rule_file, rule_from_text, rule_text, text_from_rule};
 
 use std::fmt;
 
-/// The bytes that each lent buffer has at least.
+/// The bytes that each lent buffer has at least; a work area in the square layout, and in the half layout.
 pub const WORK_BYTES: usize = 16384;
+pub const HALF_WORK_BYTES: usize = 8128;
 pub const VERDICT_BYTES: usize = 256;
 pub const TEXT_BYTES: usize = 2048;
 pub const RECORD_BYTES: usize = 2628;
@@ -136,6 +152,7 @@ fn lines_of(answer: u32) -> Result<u16, LogRefused> {
 /// The whole output of the check for a rule file and a log, at the start of the text: its length. Refused with
 /// [`Refusal::ShortBuffer`] alone; then nothing is written.
 pub fn report(
+    layout: Layout,
     rule: &[u8],
     log: &[u8],
     work: &mut [u8],
@@ -145,6 +162,7 @@ pub fn report(
     // Safe: each pointer comes with the length of its own slice, and `&mut` slices do not overlap others.
     small_value(unsafe {
         c::scene_log_report(
+            layout.number(),
             rule.as_ptr(),
             rule.len(),
             log.as_ptr(),
@@ -164,20 +182,27 @@ pub fn report(
 /// each line that is taken, 1 holds, 0 fails. An id whose run has finished may begin a new run.
 ///
 /// ```
-/// use scene_log::{check_log, Refusal, VERDICT_BYTES, WORK_BYTES};
+/// use scene_log::{check_log, Layout, Refusal, VERDICT_BYTES, WORK_BYTES};
 ///
 /// let rule = b"RUL\x01\x00\x00\x02\x08\x00\x00\x03\x00\x00";
 /// let (mut work, mut verdicts) = ([0; WORK_BYTES], [0; VERDICT_BYTES]);
-/// assert_eq!(check_log(rule, b"B 1 TEST\nE 1\nB 1\n", &mut work, &mut verdicts)?, 3);
+/// assert_eq!(check_log(Layout::Square, rule, b"B 1 TEST\nE 1\nB 1\n", &mut work, &mut verdicts)?, 3);
 /// assert_eq!(verdicts[..3], [0, 1, 1]);
-/// let refused = check_log(rule, b"B 1\nB 1\n", &mut work, &mut verdicts).unwrap_err();
+/// let refused = check_log(Layout::Square, rule, b"B 1\nB 1\n", &mut work, &mut verdicts).unwrap_err();
 /// assert_eq!((refused.line, refused.refusal), (2, Refusal::StillOpen));
 /// # Ok::<(), scene_log::LogRefused>(())
 /// ```
-pub fn check_log(rule: &[u8], log: &[u8], work: &mut [u8], verdicts: &mut [u8]) -> Result<u16, LogRefused> {
+pub fn check_log(
+    layout: Layout,
+    rule: &[u8],
+    log: &[u8],
+    work: &mut [u8],
+    verdicts: &mut [u8],
+) -> Result<u16, LogRefused> {
     // Safe: as above.
     lines_of(unsafe {
         c::scene_log_check_log(
+            layout.number(),
             rule.as_ptr(),
             rule.len(),
             log.as_ptr(),
@@ -192,6 +217,7 @@ pub fn check_log(rule: &[u8], log: &[u8], work: &mut [u8], verdicts: &mut [u8]) 
 
 /// The same, with the record of the lines that were taken at the front of `record`.
 pub fn check_log_record(
+    layout: Layout,
     rule: &[u8],
     log: &[u8],
     record: &mut [u8],
@@ -201,6 +227,7 @@ pub fn check_log_record(
     // Safe: as above.
     lines_of(unsafe {
         c::scene_log_check_log_record(
+            layout.number(),
             rule.as_ptr(),
             rule.len(),
             log.as_ptr(),
@@ -217,16 +244,26 @@ pub fn check_log_record(
 
 /// Starts a record of no lines at the front of `record` and clears the pair bytes of the work area, or refuses with
 /// [`Refusal::ShortBuffer`] and writes nothing.
-pub fn start(record: &mut [u8], work: &mut [u8]) -> Result<(), Refusal> {
+pub fn start(layout: Layout, record: &mut [u8], work: &mut [u8]) -> Result<(), Refusal> {
     // Safe: as above.
-    small_value(unsafe { c::scene_log_start(record.as_mut_ptr(), record.len(), work.as_mut_ptr(), work.len()) }).map(|_| ())
+    small_value(unsafe {
+        c::scene_log_start(layout.number(), record.as_mut_ptr(), record.len(), work.as_mut_ptr(), work.len())
+    })
+    .map(|_| ())
 }
 
 /// Takes one line, with its LF, on a record and its work area: the verdict, or the refusal, which leaves both as they were.
-pub fn check_line(rule: &[u8], record: &mut [u8], work: &mut [u8], line: &[u8]) -> Result<Verdict, Refusal> {
+pub fn check_line(
+    layout: Layout,
+    rule: &[u8],
+    record: &mut [u8],
+    work: &mut [u8],
+    line: &[u8],
+) -> Result<Verdict, Refusal> {
     // Safe: as above.
     verdict_of(unsafe {
         c::scene_log_check_line(
+            layout.number(),
             rule.as_ptr(),
             rule.len(),
             record.as_mut_ptr(),
@@ -241,6 +278,7 @@ pub fn check_line(rule: &[u8], record: &mut [u8], work: &mut [u8], line: &[u8]) 
 
 /// The same with a tally, which is updated where the line is taken.
 pub fn check_line_tallied(
+    layout: Layout,
     rule: &[u8],
     record: &mut [u8],
     tally: &mut Tally,
@@ -251,6 +289,7 @@ pub fn check_line_tallied(
     // Safe: as above.
     let verdict = verdict_of(unsafe {
         c::scene_log_check_line_tallied(
+            layout.number(),
             rule.as_ptr(),
             rule.len(),
             record.as_mut_ptr(),
@@ -275,11 +314,12 @@ pub fn relate(record: &[u8], first: u32, second: u32) -> Result<Relation, Refusa
     Ok(Relation::from_number(number as u8).expect("a relation"))
 }
 
-/// A log that is checked line by line: the record of the lines taken so far, and its work area.
+/// A log that is checked line by line: the record of the lines taken so far, and its work area with the layout that it has.
 #[derive(Clone, PartialEq, Eq, Debug)]
 pub struct Check {
+    pub layout: Layout,
     pub record: Box<[u8; RECORD_BYTES]>,
-    pub work: Box<[u8; WORK_BYTES]>,
+    pub work: Box<[u8]>,
 }
 
 impl Default for Check {
@@ -289,15 +329,21 @@ impl Default for Check {
 }
 
 impl Check {
-    /// The check of a log of which no line is read.
+    /// The check of a log of which no line is read, in the square layout.
     pub fn start() -> Check {
-        let mut check = Check { record: Box::new([0; RECORD_BYTES]), work: Box::new([0; WORK_BYTES]) };
-        start(&mut *check.record, &mut *check.work).expect("both are long enough");
+        Check::with_layout(Layout::default())
+    }
+
+    /// The same in this layout.
+    pub fn with_layout(layout: Layout) -> Check {
+        let work = vec![0; layout.work_bytes()].into_boxed_slice();
+        let mut check = Check { layout, record: Box::new([0; RECORD_BYTES]), work };
+        start(layout, &mut *check.record, &mut check.work).expect("both are long enough");
         check
     }
 
-    /// The check after the lines of a log that are taken, ready for the next line; and how many they are, or where the log is
-    /// refused and why.
+    /// The check after the lines of a log that are taken, ready for the next line, in the square layout; and how many they
+    /// are, or where the log is refused and why.
     ///
     /// ```
     /// use scene_log::{Check, Verdict};
@@ -308,14 +354,20 @@ impl Check {
     /// assert_eq!(check.line(rule, b"E 1\n"), Ok(Verdict::Holds));
     /// ```
     pub fn after(rule: &[u8], log: &[u8]) -> (Check, Result<u16, LogRefused>) {
-        let mut check = Check::start();
-        let lines = check_log_record(rule, log, &mut *check.record, &mut *check.work, &mut [0; VERDICT_BYTES]);
+        Check::after_with_layout(Layout::default(), rule, log)
+    }
+
+    /// The same in this layout.
+    pub fn after_with_layout(layout: Layout, rule: &[u8], log: &[u8]) -> (Check, Result<u16, LogRefused>) {
+        let mut check = Check::with_layout(layout);
+        let verdicts = &mut [0; VERDICT_BYTES];
+        let lines = check_log_record(layout, rule, log, &mut *check.record, &mut check.work, verdicts);
         (check, lines)
     }
 
     /// Takes one line, with its LF: the verdict, or the refusal, which changes nothing.
     pub fn line(&mut self, rule: &[u8], line: &[u8]) -> Result<Verdict, Refusal> {
-        check_line(rule, &mut *self.record, &mut *self.work, line)
+        check_line(self.layout, rule, &mut *self.record, &mut self.work, line)
     }
 
     /// The same with a tally, which is updated where the line is taken.
@@ -330,7 +382,7 @@ impl Check {
     /// # Ok::<(), scene_log::Refusal>(())
     /// ```
     pub fn line_tallied(&mut self, rule: &[u8], tally: &mut Tally, line: &[u8]) -> Result<Verdict, Refusal> {
-        check_line_tallied(rule, &mut *self.record, tally, &mut *self.work, line)
+        check_line_tallied(self.layout, rule, &mut *self.record, tally, &mut self.work, line)
     }
 
     /// The relation of the first of two runs to the second, or the refusal. Runs are numbered from 0.

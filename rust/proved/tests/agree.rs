@@ -1,12 +1,17 @@
 //! The proved library, the check program and the reference agree on everything that is generated.
 //!
-//! Every case goes to the library and to the program.
+//! Every case goes to the library in both layouts of a work area, and to the program.
+
+#[path = "common/layouts.rs"]
+mod layouts;
 
 use generate::random::Random;
 use generate::{case, Case};
+use layouts::{of_library, with_guard};
 use reference::calls::{check_log, LogAnswer};
 use reference::report::report;
 use reference::trace::{accepted_lines, runs_of};
+use reference::Layout;
 use scene_log::{LogRefused, Refusal, Relations};
 use std::collections::BTreeMap;
 use std::fs;
@@ -15,7 +20,11 @@ use std::path::{Path, PathBuf};
 use std::process::{Command, Stdio};
 use std::thread;
 
+/// How many cases there are, each in both layouts.
 const CASES: u64 = 21_000;
+
+/// The lengths of work areas about the sizes of both layouts.
+const LENGTHS: [usize; 6] = [8127, 8128, 8131, 16383, 16384, 16387];
 
 /// How many threads share the cases.
 const THREADS: u64 = 2;
@@ -31,7 +40,9 @@ const PRINTED: [u8; 18] = [1, 2, 3, 4, 5, 6, 7, 8, 9, 10, 11, 12, 13, 15, 16, 17
 /// The seed, the rule and the log of a case, to repeat it by hand.
 fn described(case: &Case) -> String {
     let rule: String = case.rule.iter().map(|byte| format!("{byte:02x}")).collect();
-    format!("seed {} ({})\nrule {rule}\nlog {}", case.seed, case.kind, case.log.escape_ascii())
+    let Case { seed, kind, layout, .. } = case;
+    let length = case.log_work.len();
+    format!("seed {seed} ({kind}), {layout:?}, {length} bytes\nrule {rule}\nlog {}", case.log.escape_ascii())
 }
 
 /// What the whole-log call answers, and what it leaves in its buffers.
@@ -45,13 +56,16 @@ struct LogLeft {
 
 fn left_by_reference(case: &Case) -> LogLeft {
     let (mut work, mut verdicts) = (case.log_work.clone(), case.verdicts.clone());
-    let LogAnswer { record, refusal } = check_log(&case.rule, &case.log, &mut work, &mut verdicts);
+    let LogAnswer { record, refusal } = check_log(case.layout, &case.rule, &case.log, &mut work, &mut verdicts);
     LogLeft { lines: record.lines, refusal, work, verdicts }
 }
 
 fn left_by_library(case: &Case) -> LogLeft {
-    let (mut work, mut verdicts) = (case.log_work.clone(), case.verdicts.clone());
-    let answer = scene_log::check_log(&case.rule, &case.log, &mut work, &mut verdicts);
+    let mut verdicts = case.verdicts.clone();
+    let layout = of_library(case.layout);
+    let (answer, work) = with_guard(&case.log_work, |work| {
+        scene_log::check_log(layout, &case.rule, &case.log, work, &mut verdicts)
+    });
     let lines = answer.unwrap_or_else(LogRefused::lines).into();
     let refusal = answer.err().map(|refused| (refused.refusal.number(), refused.line.into()));
     LogLeft { lines, refusal, work, verdicts }
@@ -89,8 +103,11 @@ fn expected_report(case: &Case, text: &[u8], printed: &[u8], log: &LogLeft) -> R
 }
 
 fn report_by_library(case: &Case, text: &[u8]) -> ReportLeft {
-    let (mut work, mut verdicts, mut text) = (case.log_work.clone(), case.verdicts.clone(), text.to_vec());
-    let answer = scene_log::report(&case.rule, &case.log, &mut work, &mut verdicts, &mut text);
+    let (mut verdicts, mut text) = (case.verdicts.clone(), text.to_vec());
+    let layout = of_library(case.layout);
+    let (answer, work) = with_guard(&case.log_work, |work| {
+        scene_log::report(layout, &case.rule, &case.log, work, &mut verdicts, &mut text)
+    });
     let length = answer.map_err(|refusal| assert_eq!(refusal, Refusal::ShortBuffer)).ok();
     ReportLeft { length, work, verdicts, text }
 }
@@ -142,9 +159,12 @@ fn printed_refusal(report: &[u8]) -> Option<u8> {
 /// What was seen in the cases.
 #[derive(Default)]
 struct Seen {
-    answered: BTreeMap<u8, u64>,
+    answered: BTreeMap<(Layout, u8), u64>,
+    /// How often a work area of one of the lengths about both sizes was lent, and whether it was too short.
+    lengths: BTreeMap<(Layout, usize, bool), u64>,
     printed: BTreeMap<u8, u64>,
-    /// How often each kind of log was read, how many logs were full, and in how many an id begins again.
+    /// How often each kind of log was read, how many logs were full, and in how many an id begins again; in either
+    /// layout.
     kinds: BTreeMap<&'static str, u64>,
     full: u64,
     again: u64,
@@ -155,6 +175,9 @@ impl Seen {
     fn add(&mut self, other: Seen) {
         for (number, count) in other.answered {
             *self.answered.entry(number).or_default() += count;
+        }
+        for (length, count) in other.lengths {
+            *self.lengths.entry(length).or_default() += count;
         }
         for (number, count) in other.printed {
             *self.printed.entry(number).or_default() += count;
@@ -178,22 +201,36 @@ fn uses_an_id_again(log: &[u8]) -> bool {
     ids.len() < runs
 }
 
-/// Holds the three against each other on one case. The folder is for the program's rule file.
+/// Holds the three against each other on one case, in both layouts. The folder is for the program's rule file.
 fn compare(seed: u64, folder: &Path, seen: &mut Seen) {
-    let case = case(seed);
     let random = &mut Random::new(!seed);
-    let log = left_by_reference(&case);
-    assert!(left_by_library(&case) == log, "the whole-log calls differ on {}", described(&case));
-    let printed = report(&case.rule, &case.log);
     let text = text_buffer(random);
-    let expected = expected_report(&case, &text, &printed, &log);
-    assert!(report_by_library(&case, &text) == expected, "the reports differ on {}", described(&case));
+    let cases = Layout::ALL.map(|layout| case(layout, seed));
+    // Rule and log are the same in both.
+    let case = &cases[0];
+    let printed = report(&case.rule, &case.log);
+    for case in &cases {
+        compare_calls(case, &text, &printed, seen);
+    }
     fs::write(folder.join("rule.rul"), &case.rule).unwrap();
     let piece = *random.pick(&[1, 7, 100, 4096, 10_000]);
     let output = printed_by_program(folder, &case.log, piece.max(case.log.len() / 300));
-    assert!(output == printed, "the program and the reference differ on {}", described(&case));
+    assert!(output == printed, "the program and the reference differ on {}", described(case));
     if let Some(number) = printed_refusal(&output) {
         *seen.printed.entry(number).or_default() += 1;
+    }
+    seen.cases += 1;
+}
+
+/// Holds the calls on a whole log against the reference.
+fn compare_calls(case: &Case, text: &[u8], printed: &[u8], seen: &mut Seen) {
+    let log = left_by_reference(case);
+    assert!(left_by_library(case) == log, "the whole-log calls differ on {}", described(case));
+    let expected = expected_report(case, text, printed, &log);
+    assert!(report_by_library(case, text) == expected, "the reports differ on {}", described(case));
+    let length = case.log_work.len();
+    if LENGTHS.contains(&length) && case.verdicts.len() >= scene_log::VERDICT_BYTES {
+        *seen.lengths.entry((case.layout, length, log.refusal == Some((20, 0)))).or_default() += 1;
     }
     if !matches!(log.refusal, Some((_, 0))) {
         *seen.kinds.entry(case.kind).or_default() += 1;
@@ -202,9 +239,8 @@ fn compare(seed: u64, folder: &Path, seen: &mut Seen) {
     }
     let refusals = [log.refusal.map(|(number, _)| number), (expected.length.is_none()).then_some(20)];
     for number in refusals.into_iter().flatten() {
-        *seen.answered.entry(number).or_default() += 1;
+        *seen.answered.entry((case.layout, number)).or_default() += 1;
     }
-    seen.cases += 1;
 }
 
 #[test]
@@ -229,17 +265,24 @@ fn library_program_and_reference_agree_on_generated_cases() {
             seen.add(part.join().unwrap());
         }
     });
-    println!("{} cases, each with a run of the program", seen.cases);
+    println!("{} cases in both layouts, each with a run of the program", seen.cases);
     println!("answered {:?}\nprinted {:?}\nread {:?}, {} of 256 lines", seen.answered, seen.printed, seen.kinds, seen.full);
-    println!("{} begin an id again", seen.again);
+    println!("{} begin an id again; lengths {:?}", seen.again, seen.lengths);
     assert_eq!(seen.cases, CASES);
-    let with_20: Vec<u8> = PRINTED.into_iter().chain([20]).collect();
-    assert_eq!(seen.answered.into_keys().collect::<Vec<u8>>(), with_20);
+    let with_20 = |layout: Layout| PRINTED.into_iter().chain([20]).map(move |number| (layout, number));
+    let expected: Vec<(Layout, u8)> = Layout::ALL.into_iter().flat_map(with_20).collect();
+    assert_eq!(seen.answered.into_keys().collect::<Vec<_>>(), expected);
     assert_eq!(seen.printed.into_keys().collect::<Vec<u8>>(), PRINTED);
     for kind in ["no bytes", "short", "middling", "128 runs", "64 labels", "labels with one first place", "random bytes"] {
-        assert!(seen.kinds[kind] >= 100, "{kind}");
+        assert!(seen.kinds[kind] >= 200, "{kind}");
     }
-    assert!(seen.full >= 100 && seen.again >= CASES / 4);
+    assert!(seen.full >= 200 && seen.again >= CASES / 2);
+    // Each length is too short for a layout or long enough, in all cases that lend it.
+    let least = |layout: Layout| if layout == Layout::Square { 16384 } else { 8128 };
+    let of_layout = |layout: Layout| LENGTHS.map(|length| (layout, length, length < least(layout)));
+    let expected: Vec<(Layout, usize, bool)> = Layout::ALL.into_iter().flat_map(of_layout).collect();
+    assert_eq!(seen.lengths.keys().copied().collect::<Vec<_>>(), expected);
+    assert!(seen.lengths.values().all(|count| *count >= 50));
 }
 
 /// A set or a refusal by its number.
@@ -309,9 +352,12 @@ fn library_and_reference_agree_on_the_properties_of_the_paper() {
         for (all, runs) in [(true, 128), (true, 128), (true, 40), (true, 12), (false, 40), (false, 12)] {
             let listed = if all { &labels } else { &labels[labels.len() - 1..] };
             let log = full_log(random, listed, runs);
-            let (mut work, mut verdicts, mut text) = ([0; 16384], [0; 256], [0; 2048]);
-            let length = scene_log::report(&rule, &log, &mut work, &mut verdicts, &mut text).unwrap();
-            assert!(text[..length] == report(&rule, &log), "{name}, log {}", log.escape_ascii());
+            let expected = report(&rule, &log);
+            for layout in scene_log::Layout::ALL {
+                let (mut work, mut verdicts, mut text) = (vec![0; layout.work_bytes()], [0; 256], [0; 2048]);
+                let length = scene_log::report(layout, &rule, &log, &mut work, &mut verdicts, &mut text).unwrap();
+                assert!(text[..length] == expected, "{name}, {layout:?}, log {}", log.escape_ascii());
+            }
         }
     }
 }
@@ -380,9 +426,12 @@ fn the_lessons_hold_for_library_and_program() {
             continue;
         }
         let read = |name: &str| fs::read(folder.join(name)).unwrap();
-        let (mut work, mut verdicts, mut text) = ([7; 16384], [7; 256], [7; 2048]);
-        let length = scene_log::report(&read("rule.rul"), &read("log"), &mut work, &mut verdicts, &mut text).unwrap();
-        assert!(text[..length] == read("expected"), "{}", folder.display());
+        let (rule, log) = (read("rule.rul"), read("log"));
+        for layout in scene_log::Layout::ALL {
+            let (mut work, mut verdicts, mut text) = (vec![7; layout.work_bytes()], [7; 256], [7; 2048]);
+            let length = scene_log::report(layout, &rule, &log, &mut work, &mut verdicts, &mut text).unwrap();
+            assert!(text[..length] == read("expected"), "{}, {layout:?}", folder.display());
+        }
         assert!(printed_by_program(&folder, &read("log"), 5) == read("expected"), "{}", folder.display());
         lessons += 1;
     }

@@ -1,22 +1,27 @@
 //! Ids that are used again: the library agrees with the reference on generated logs that do so and on every short log
-//! of two ids, and with what this test follows by itself, a run at a time, on these and on long ones.
+//! of two ids, and with what this test follows by itself, a run at a time, on these and on long ones. All of it in both
+//! layouts of a work area.
 
 mod common;
+#[path = "common/layouts.rs"]
+mod layouts;
 
 use common::{bytes_of, first_seed};
 use generate::logs::{any_log, next_line};
 use generate::random::Random;
+use layouts::{of_library, with_guard};
 use reference::calls as by_reference;
 use reference::line::Event;
 use reference::record::{lines_of, pair_bytes, record_of, RunEntry};
 use reference::relation::logs_of_three_runs;
 use reference::trace::accepted_lines;
+use reference::Layout;
 use scene_log::{check_line, check_log_record, relate, Check, LogRefused, Refusal, Relation, Verdict};
-use scene_log::{RECORD_BYTES, VERDICT_BYTES, WORK_BYTES};
+use scene_log::{RECORD_BYTES, VERDICT_BYTES};
 use std::collections::{BTreeMap, BTreeSet};
 use std::thread;
 
-/// Generated logs that begin an id again, and how many threads share them.
+/// Generated logs that begin an id again, each in both layouts, and how many threads share them.
 const LOGS: u64 = 20_000;
 const THREADS: u64 = 2;
 
@@ -39,26 +44,28 @@ struct Left {
     verdicts: Vec<u8>,
 }
 
-fn left_by_library(log: &[u8]) -> Left {
-    let (mut record, mut work, mut verdicts) = (vec![7; RECORD_BYTES], vec![7; WORK_BYTES], vec![7; VERDICT_BYTES]);
-    let answer = check_log_record(RULE, log, &mut record, &mut work, &mut verdicts);
+fn left_by_library(layout: Layout, log: &[u8]) -> Left {
+    let (mut record, mut verdicts) = (vec![7; RECORD_BYTES], vec![7; VERDICT_BYTES]);
+    let (answer, work) = with_guard(&vec![7; layout.size()], |work| {
+        check_log_record(of_library(layout), RULE, log, &mut record, work, &mut verdicts)
+    });
     let number = |refused: LogRefused| (refused.refusal.number(), refused.line);
     Left { answer: answer.map_err(number), record, work, verdicts }
 }
 
-fn left_by_reference(log: &[u8]) -> Left {
-    let (mut work, mut verdicts) = (vec![7; WORK_BYTES], vec![7; VERDICT_BYTES]);
-    let answer = by_reference::check_log(RULE, log, &mut work, &mut verdicts);
+fn left_by_reference(layout: Layout, log: &[u8]) -> Left {
+    let (mut work, mut verdicts) = (vec![7; layout.size()], vec![7; VERDICT_BYTES]);
+    let answer = by_reference::check_log(layout, RULE, log, &mut work, &mut verdicts);
     let lines = answer.record.lines as u16;
     let answered = answer.refusal.map_or(Ok(lines), |(number, line)| Err((number, line as u16)));
     Left { answer: answered, record: bytes_of(&answer.record), work, verdicts }
 }
 
 /// Both on the same log: the same answer, the same bytes.
-fn agreed(log: &[u8]) -> Left {
-    let (found, expected) = (left_by_library(log), left_by_reference(log));
+fn agreed(layout: Layout, log: &[u8]) -> Left {
+    let (found, expected) = (left_by_library(layout, log), left_by_reference(layout, log));
     let (answer, other) = (found.answer, expected.answer);
-    assert!(found == expected, "{answer:?} and {other:?}, or other bytes, on log {}", log.escape_ascii());
+    assert!(found == expected, "{layout:?}: {answer:?} and {other:?}, or other bytes, on log {}", log.escape_ascii());
     found
 }
 
@@ -79,20 +86,24 @@ struct Seen {
 /// Holds both against each other on a log, and on one line more after its lines or some of them, on the record in
 /// bytes.
 fn compare(random: &mut Random, log: &[u8], accepted: &[Event], seen: &mut Seen) {
-    let left = agreed(log);
-    *seen.logs.entry(left.answer.err().map(|(number, _)| number)).or_default() += 1;
-
     let lines = if random.chance(1, 2) { accepted.len() } else { random.below(accepted.len() + 1) };
     let line = next_line(random, &accepted[..lines], &[]);
     let before = record_of(&accepted[..lines]);
-    let (mut record, mut work) = (bytes_of(&before), pair_bytes(&before));
-    let mut expected_work = work.clone();
-    let met = check_line(RULE, &mut record, &mut work, &line).map(Verdict::holds).map_err(Refusal::number);
-    let expected = by_reference::check_line(RULE, &before, &mut expected_work, &line);
-    let message = || format!("line {} after {lines} of log {}", line.escape_ascii(), log.escape_ascii());
-    assert_eq!(met, expected.verdict, "{}", message());
-    assert!(record == bytes_of(&expected.record) && work == expected_work, "{}", message());
-    *seen.lines.entry(met).or_default() += 1;
+    for layout in Layout::ALL {
+        let left = agreed(layout, log);
+        *seen.logs.entry(left.answer.err().map(|(number, _)| number)).or_default() += 1;
+
+        let (mut record, mut expected_work) = (bytes_of(&before), pair_bytes(layout, &before));
+        let (met, work) = with_guard(&expected_work, |work| {
+            let met = check_line(of_library(layout), RULE, &mut record, work, &line);
+            met.map(Verdict::holds).map_err(Refusal::number)
+        });
+        let expected = by_reference::check_line(layout, RULE, &before, &mut expected_work, &line);
+        let message = || format!("{layout:?}, line {}, {lines} of log {}", line.escape_ascii(), log.escape_ascii());
+        assert_eq!(met, expected.verdict, "{}", message());
+        assert!(record == bytes_of(&expected.record) && work == expected_work, "{}", message());
+        *seen.lines.entry(met).or_default() += 1;
+    }
 }
 
 /// The reference is slow on long logs: of those with more than 100 lines one in eight is read.
@@ -126,10 +137,10 @@ fn library_and_reference_agree_on_generated_logs_that_use_an_id_again() {
         }
     });
     println!("whole logs: {:?}\na line more: {:?}", all.logs, all.lines);
-    assert_eq!((all.logs.values().sum::<u64>(), all.lines.values().sum::<u64>()), (LOGS, LOGS));
+    assert_eq!((all.logs.values().sum::<u64>(), all.lines.values().sum::<u64>()), (2 * LOGS, 2 * LOGS));
     let refusals = [11, 12, 13, 15, 16, 17, 18, 19];
-    assert!(refusals.iter().all(|number| all.logs[&Some(*number)] >= 20 && all.lines[&Err(*number)] >= 20));
-    assert!(all.logs[&None] >= 5_000 && all.lines[&Ok(true)] >= 1_000 && all.lines[&Ok(false)] >= 1_000);
+    assert!(refusals.iter().all(|number| all.logs[&Some(*number)] >= 40 && all.lines[&Err(*number)] >= 40));
+    assert!(all.logs[&None] >= 10_000 && all.lines[&Ok(true)] >= 2_000 && all.lines[&Ok(false)] >= 2_000);
 }
 
 /// A line: whether it begins a run, and its id.
@@ -151,21 +162,21 @@ fn short_logs() -> impl Iterator<Item = Vec<Line>> {
 #[test]
 fn library_and_reference_agree_on_all_short_logs_of_two_ids() {
     let mut answered: BTreeMap<Option<u8>, u64> = BTreeMap::new();
-    for lines in short_logs() {
+    for (lines, layout) in short_logs().flat_map(|lines| Layout::ALL.map(|layout| (lines.clone(), layout))) {
         let log = bytes(&lines);
-        let left = agreed(&log);
+        let left = agreed(layout, &log);
         let refusal = left.answer.err().map(|(number, _)| number);
         // The same line by line, and a refused line changes nothing.
-        let mut check = Check::start();
+        let mut check = Check::with_layout(of_library(layout));
         let met = lines.iter().find_map(|line| check.line(RULE, &bytes(&[*line])).err());
         assert_eq!(met.map(Refusal::number), refusal, "log {}", log.escape_ascii());
         assert!(check.record[..] == left.record && check.work[..] == left.work, "log {}", log.escape_ascii());
         *answered.entry(refusal).or_default() += 1;
     }
     println!("{answered:?}");
-    // Each line has either id, and the lines before it settle whether it begins or ends: 2 ways a line.
-    assert_eq!(answered[&None], (0..=LINES).map(|lines| 1 << lines).sum::<u64>());
-    assert_eq!(answered.values().sum::<u64>(), (0..=LINES).map(|lines| 1 << (2 * lines)).sum());
+    // Each line has either id, and the lines before it settle whether it begins or ends: 2 ways a line. Two layouts.
+    assert_eq!(answered[&None], 2 * (0..=LINES).map(|lines| 1 << lines).sum::<u64>());
+    assert_eq!(answered.values().sum::<u64>(), 2 * (0..=LINES).map(|lines| 1 << (2 * lines)).sum::<u64>());
     assert_eq!(answered.into_keys().collect::<Vec<_>>(), [None, Some(15), Some(16), Some(17)]);
 }
 
@@ -210,11 +221,31 @@ fn pair_byte([_, _, end]: Run, [_, other_begin, other_end]: Run) -> u8 {
     }
 }
 
-/// The library against what is followed here: answer, number of runs, their entries in the record, and all pair bytes.
+/// The area of these runs: by rows of 128 bytes, or all pairs one after another, by the number of their second run.
+fn area_of(layout: Layout, runs: &[Run]) -> Vec<u8> {
+    let byte = |first: usize, second: usize| match (runs.get(first), runs.get(second)) {
+        (Some(run), Some(other)) if first < second => pair_byte(*run, *other),
+        _ => 0,
+    };
+    match layout {
+        Layout::Square => (0..128).flat_map(|first| (0..128).map(move |second| byte(first, second))).collect(),
+        Layout::Half => (0..128).flat_map(|second| (0..second).map(move |first| byte(first, second))).collect(),
+    }
+}
+
+/// The library against what is followed here, in both layouts.
 fn hold_against_followed(lines: &[Line]) -> (Vec<Run>, Option<(u8, u16)>) {
-    let log = bytes(lines);
     let (runs, refusal) = followed(lines);
-    let left = left_by_library(&log);
+    for layout in Layout::ALL {
+        hold_against(layout, lines, &runs, refusal);
+    }
+    (runs, refusal)
+}
+
+/// Answer, number of runs, their entries in the record, and all pair bytes.
+fn hold_against(layout: Layout, lines: &[Line], runs: &[Run], refusal: Option<(u8, u16)>) {
+    let log = bytes(lines);
+    let left = left_by_library(layout, &log);
     assert_eq!(left.answer, refusal.map_or(Ok(lines.len() as u16), Err), "log {}", log.escape_ascii());
     // Three numbers, low byte first, and no label.
     let entry = |run: &Run| [&run.map(u16::to_le_bytes).concat()[..], &[0]].concat();
@@ -222,14 +253,7 @@ fn hold_against_followed(lines: &[Line]) -> (Vec<Run>, Option<(u8, u16)>) {
     entries.resize(7 * 128, 0);
     assert_eq!(left.record[2], runs.len() as u8, "log {}", log.escape_ascii());
     assert!(left.record[4..900] == entries, "log {}", log.escape_ascii());
-    for (place, byte) in left.work.iter().enumerate() {
-        let expected = match (runs.get(place / 128), runs.get(place % 128)) {
-            (Some(first), Some(second)) if place / 128 < place % 128 => pair_byte(*first, *second),
-            _ => 0,
-        };
-        assert_eq!(*byte, expected, "pair byte {place}, log {}", log.escape_ascii());
-    }
-    (runs, refusal)
+    assert!(left.work == area_of(layout, runs), "pair bytes, {layout:?}, log {}", log.escape_ascii());
 }
 
 #[test]
@@ -296,12 +320,14 @@ fn two_runs_share_an_id_in_a_record_exactly_if_one_has_finished_before_the_other
                 used[place + 1..].iter().all(|second| first.id != second.id || are_apart(first, second))
             });
             assert_eq!(lines_of(&record).is_some(), is_left, "{used:?}");
-            let (mut bytes, mut work) = (bytes_of(&record), pair_bytes(&record));
             // There is no run 200.
             let expected = if is_left { Refusal::NoFinishedRun } else { Refusal::NoRecord };
-            assert_eq!(relate(&bytes, 0, 200), Err(expected), "{used:?}");
-            let taken = check_line(RULE, &mut bytes, &mut work, b"B 9\n").err();
-            assert_eq!(taken, (!is_left).then_some(Refusal::NoRecord), "{used:?}");
+            assert_eq!(relate(&bytes_of(&record), 0, 200), Err(expected), "{used:?}");
+            for layout in Layout::ALL {
+                let (mut bytes, mut work) = (bytes_of(&record), pair_bytes(layout, &record));
+                let taken = check_line(of_library(layout), RULE, &mut bytes, &mut work, b"B 9\n").err();
+                assert_eq!(taken, (!is_left).then_some(Refusal::NoRecord), "{layout:?}, {used:?}");
+            }
             if is_left { left += 1 } else { refused += 1 }
         }
     }
@@ -312,7 +338,13 @@ fn two_runs_share_an_id_in_a_record_exactly_if_one_has_finished_before_the_other
 /// Worked out by hand: ids 1 and 2 are used twice each, and the lines of one come between those of the other.
 #[test]
 fn a_log_of_two_ids_line_by_line() {
-    let mut check = Check::start();
+    // Runs 0 and 1, 0 and 2, 0 and 3; 1 and 2, 1 and 3; 2 and 3.
+    a_log_of_two_ids_line_by_line_in(scene_log::Layout::Square, [1, 2, 3, 130, 131, 259]);
+    a_log_of_two_ids_line_by_line_in(scene_log::Layout::Half, [0, 1, 3, 2, 4, 5]);
+}
+
+fn a_log_of_two_ids_line_by_line_in(layout: scene_log::Layout, places: [usize; 6]) {
+    let mut check = Check::with_layout(layout);
     for (line, answer) in [
         ("E 1\n", Err(16)),
         ("B 1\n", Ok(false)),
@@ -343,10 +375,9 @@ fn a_log_of_two_ids_line_by_line() {
     // The hash of A is 0xc40bf6cc.
     record[2500 + 0xcc % 128] = 1;
     assert!(*check.record == record);
-    let pairs = [(1, 6), (2, 5), (3, 2), (130, 6), (131, 2), (259, 3)];
     for (place, byte) in check.work.iter().enumerate() {
-        let expected = pairs.iter().find(|(at, _)| *at == place).map_or(0, |(_, byte)| *byte);
-        assert_eq!(*byte, expected, "pair byte {place}");
+        let pair = places.iter().position(|at| *at == place);
+        assert_eq!(*byte, pair.map_or(0, |pair| [6, 5, 2, 6, 2, 3][pair]), "pair byte {place}, {layout:?}");
     }
     use Relation::{After, Before, OverlappedBy, Overlaps};
     let relations = [(0, 1, Overlaps), (1, 0, OverlappedBy), (0, 2, Before), (2, 0, After), (1, 2, Overlaps)];
@@ -376,6 +407,8 @@ fn runs_of_one_id_at_the_edges() {
         (of_one_id(64, 64) + "B 1 NEW\n", Err((19, 129))),
         (of_one_id(64, 64) + "B 1 L63\nB 1 NEW\n", Err((15, 130))),
     ] {
-        assert_eq!(left_by_library(log.as_bytes()).answer, answer, "{}", log.escape_default());
+        for layout in Layout::ALL {
+            assert_eq!(left_by_library(layout, log.as_bytes()).answer, answer, "{}", log.escape_default());
+        }
     }
 }

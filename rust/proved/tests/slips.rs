@@ -13,7 +13,7 @@ use reference::record::{record_of, Record};
 use reference::rule::read_rule;
 use reference::slip::form_of;
 use reference::trace::accepted_lines;
-use scene_log::{check_log, first_slip, rule_file, slip_passes, write_first_slip, Check, Refusal};
+use scene_log::{check_log, first_slip, rule_file, slip_passes, write_first_slip, Check, Layout, Refusal};
 use scene_log::{RECORD_BYTES, SLIP_BYTES, VERDICT_BYTES, WORK_BYTES};
 use std::collections::BTreeMap;
 use std::fs;
@@ -165,7 +165,7 @@ fn the_rule_fails_at_the_last_line_exactly_where_a_slip_is_found() {
             continue;
         };
         let (mut work, mut verdicts) = (vec![0; WORK_BYTES], vec![7; VERDICT_BYTES]);
-        let lines = check_log(&case.rule, &case.log, &mut work, &mut verdicts).expect("accepted lines");
+        let lines = check_log(Layout::Square, &case.rule, &case.log, &mut work, &mut verdicts).expect("accepted lines");
         let slip = first_slip(&case.rule, &record).expect("a rule with slips and a record");
         if lines == 0 {
             assert_eq!(slip, None, "seed {seed}");

@@ -3,7 +3,8 @@
 use generate::case;
 use generate::texts::{rule_case, text_case};
 use reference::calls as by_reference;
-use scene_log::{report, rule_file, rule_from_text, rule_text, text_from_rule, Refusal, RULE_BYTES, RULE_TEXT_BYTES};
+use scene_log::{report, rule_file, rule_from_text, rule_text, text_from_rule, Layout, Refusal};
+use scene_log::{RULE_BYTES, RULE_TEXT_BYTES};
 use std::collections::BTreeMap;
 use std::fs;
 use std::path::Path;
@@ -218,7 +219,7 @@ fn texts_at_the_edges() {
 /// The report of a rule on a log, by the library.
 fn reported(rule: &[u8], log: &[u8]) -> Vec<u8> {
     let (mut work, mut verdicts, mut text) = ([0; 16384], [0; 256], [0; 2048]);
-    let length = report(rule, log, &mut work, &mut verdicts, &mut text).unwrap();
+    let length = report(Layout::Square, rule, log, &mut work, &mut verdicts, &mut text).unwrap();
     text[..length].to_vec()
 }
 
@@ -226,7 +227,7 @@ fn reported(rule: &[u8], log: &[u8]) -> Vec<u8> {
 fn a_rule_written_out_and_read_again_has_the_same_verdicts() {
     let (mut rules, mut lines) = (0, 0);
     for seed in first_seed()..first_seed() + LOGS {
-        let case = case(seed);
+        let case = case(reference::Layout::Square, seed);
         let Ok(text) = rule_text(&case.rule) else {
             continue;
         };

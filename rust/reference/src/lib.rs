@@ -10,6 +10,7 @@
 //! - `formula`: the logic and its meaning over finished runs.
 //! - `relation`: the six relations, converse and composition (14).
 //! - `record`: the carried record and the pair bytes, and whether they are real (21).
+//! - `layout`: which pair each byte of a work area is of, in either layout.
 //! - `calls`: the calls, with their refusals in order and what they leave in each buffer.
 //! - `report`: the whole output of the check program.
 //! - `slip`: the runs that break a rule, and which rules have them (26).
@@ -17,6 +18,7 @@
 
 pub mod calls;
 pub mod formula;
+pub mod layout;
 pub mod line;
 pub mod record;
 pub mod relation;
@@ -25,6 +27,8 @@ pub mod rule;
 pub mod slip;
 pub mod trace;
 pub mod typed;
+
+pub use layout::Layout;
 
 /// A number on the paper's list of refusals, 1 to 26.
 pub type Refusal = u8;
@@ -42,8 +46,9 @@ pub const LABEL_LIMIT: usize = 24;
 /// "whose LF is not among its first 40 bytes".
 pub const LINE_LIMIT: usize = 40;
 
-/// "its first 16,384 bytes are pair bytes".
-pub const PAIR_BYTES: usize = MAX_RUNS * MAX_RUNS;
+/// "its first 16,384 bytes are pair bytes", and "20 below 8,128 for the small layout".
+pub const SQUARE_BYTES: usize = 16384;
+pub const HALF_BYTES: usize = 8128;
 
 /// "a verdict buffer of at least 256 bytes".
 pub const VERDICT_BYTES: usize = 256;

@@ -4,7 +4,7 @@ use reference::calls::*;
 use reference::record::{pair_bytes, record_of, Record};
 use reference::trace::accepted_lines;
 use reference::typed::rule_file;
-use reference::{PAIR_BYTES, VERDICT_BYTES};
+use reference::{Layout, VERDICT_BYTES};
 
 /// No EVENING includes a TEST.
 fn p1() -> Vec<u8> {
@@ -20,8 +20,8 @@ fn record_after(log: &str) -> Record {
 }
 
 /// A work area with a few bytes more than needed, which no call may change.
-fn work_after(log: &str) -> Vec<u8> {
-    let mut work = pair_bytes(&record_after(log));
+fn work_after(layout: Layout, log: &str) -> Vec<u8> {
+    let mut work = pair_bytes(layout, &record_after(log));
     work.extend([0xA5; 7]);
     work
 }
@@ -33,95 +33,116 @@ fn tally(counts: [u64; 5]) -> Tally {
 
 #[test]
 fn starting_a_record_clears_the_pair_bytes_and_no_byte_after_them() {
-    let mut work = vec![0xA5; PAIR_BYTES + 3];
-    assert_eq!(start_record(&mut work), Ok(Record::of_no_lines()));
-    assert_eq!(work[..PAIR_BYTES], [0; PAIR_BYTES]);
-    assert_eq!(work[PAIR_BYTES..], [0xA5; 3]);
-    let mut short = vec![0xA5; PAIR_BYTES - 1];
-    assert_eq!(start_record(&mut short), Err(20));
-    assert_eq!(short, vec![0xA5; PAIR_BYTES - 1]);
-    assert_eq!(start_record(&mut []), Err(20));
+    for (layout, size) in [(Layout::Square, 16384), (Layout::Half, 8128)] {
+        for more in [0, 1, 3, 8256] {
+            let mut work = vec![0xA5; size + more];
+            assert_eq!(start_record(layout, &mut work), Ok(Record::of_no_lines()));
+            assert_eq!(work[..size], vec![0; size]);
+            assert_eq!(work[size..], vec![0xA5; more]);
+        }
+        for length in [0, 1, 8127, size - 1] {
+            let mut short = vec![0xA5; length];
+            assert_eq!(start_record(layout, &mut short), Err(20));
+            assert_eq!(short, vec![0xA5; length]);
+        }
+    }
+    assert_eq!(start_record(Layout::Square, &mut [0; 8128]), Err(20));
 }
 
 #[test]
 fn the_single_line_calls_follow_p1() {
-    let mut work = vec![0xA5; PAIR_BYTES + 3];
-    let mut record = start_record(&mut work).unwrap();
-    let mut counts = Tally::default();
-    let mut so_far = String::new();
-    for (line, holds, byte, expected) in [
-        ("B 7 EVENING\n", true, 0, [1, 1, 0, 1, 0]),
-        ("B 9 TEST\n", true, 1, [2, 2, 0, 2, 0]),
-        ("E 9\n", true, 4, [3, 2, 1, 1, 0]),
-        ("E 7\n", false, 7, [4, 2, 2, 0, 1]),
-    ] {
-        let mut other_work = work.clone();
-        let without = check_line(&p1(), &record, &mut other_work, line.as_bytes());
-        let with = check_line_with_tally(&p1(), &record, &mut work, &mut counts, line.as_bytes());
-        so_far += line;
-        assert_eq!(without, with);
-        assert_eq!(other_work, work);
-        assert_eq!(with.verdict, Ok(holds));
-        assert_eq!(with.record, record_after(&so_far));
-        assert_eq!(work[..PAIR_BYTES], pair_bytes(&with.record));
-        assert_eq!(work[1], byte);
-        assert_eq!(work[PAIR_BYTES..], [0xA5; 3]);
-        assert_eq!(counts, tally(expected));
-        record = with.record;
+    for (layout, place) in [(Layout::Square, 1), (Layout::Half, 0)] {
+        let mut work = vec![0xA5; layout.size() + 3];
+        let mut record = start_record(layout, &mut work).unwrap();
+        let mut counts = Tally::default();
+        let mut so_far = String::new();
+        for (line, holds, byte, expected) in [
+            ("B 7 EVENING\n", true, 0, [1, 1, 0, 1, 0]),
+            ("B 9 TEST\n", true, 1, [2, 2, 0, 2, 0]),
+            ("E 9\n", true, 4, [3, 2, 1, 1, 0]),
+            ("E 7\n", false, 7, [4, 2, 2, 0, 1]),
+        ] {
+            let mut other_work = work.clone();
+            let without = check_line(layout, &p1(), &record, &mut other_work, line.as_bytes());
+            let with = check_line_with_tally(layout, &p1(), &record, &mut work, &mut counts, line.as_bytes());
+            so_far += line;
+            assert_eq!(without, with);
+            assert_eq!(other_work, work);
+            assert_eq!(with.verdict, Ok(holds));
+            assert_eq!(with.record, record_after(&so_far));
+            assert_eq!(work[..layout.size()], pair_bytes(layout, &with.record));
+            assert_eq!(work[place], byte);
+            assert_eq!(work[layout.size()..], [0xA5; 3]);
+            assert_eq!(counts, tally(expected));
+            record = with.record;
+        }
     }
 }
 
 #[test]
 fn the_whole_log_call_follows_p1() {
-    let mut work = vec![0xA5; PAIR_BYTES + 3];
-    let mut verdicts = vec![9; VERDICT_BYTES + 3];
-    let answer = check_log(&p1(), P1_LOG.as_bytes(), &mut work, &mut verdicts);
-    assert_eq!(answer, LogAnswer { record: record_after(P1_LOG), refusal: None });
-    assert_eq!(verdicts[..4], [1, 1, 1, 0]);
-    assert!(verdicts[4..].iter().all(|byte| *byte == 9));
-    assert_eq!(work[..PAIR_BYTES], pair_bytes(&answer.record));
-    assert_eq!(work[PAIR_BYTES..], [0xA5; 3]);
+    for layout in Layout::ALL {
+        let mut work = vec![0xA5; layout.size() + 3];
+        let mut verdicts = vec![9; VERDICT_BYTES + 3];
+        let answer = check_log(layout, &p1(), P1_LOG.as_bytes(), &mut work, &mut verdicts);
+        assert_eq!(answer, LogAnswer { record: record_after(P1_LOG), refusal: None });
+        assert_eq!(verdicts[..4], [1, 1, 1, 0]);
+        assert!(verdicts[4..].iter().all(|byte| *byte == 9));
+        assert_eq!(work[..layout.size()], pair_bytes(layout, &answer.record));
+        assert_eq!(work[layout.size()..], [0xA5; 3]);
+    }
 }
 
 #[test]
 fn a_log_refused_at_a_line_keeps_what_came_before_it() {
-    let mut work = vec![0xA5; PAIR_BYTES];
-    let mut verdicts = vec![9; VERDICT_BYTES];
-    let log = "B 7 EVENING\nB 9 TEST\nE 9\nB 7\nE 7\n";
-    let answer = check_log(&p1(), log.as_bytes(), &mut work, &mut verdicts);
-    let before = record_after("B 7 EVENING\nB 9 TEST\nE 9\n");
-    assert_eq!(answer.refusal, Some((15, 4)));
-    assert_eq!(work, pair_bytes(&before));
-    assert_eq!(answer.record, before);
-    assert_eq!(verdicts[..4], [1, 1, 1, 9]);
+    for layout in Layout::ALL {
+        let mut work = vec![0xA5; layout.size()];
+        let mut verdicts = vec![9; VERDICT_BYTES];
+        let log = "B 7 EVENING\nB 9 TEST\nE 9\nB 7\nE 7\n";
+        let answer = check_log(layout, &p1(), log.as_bytes(), &mut work, &mut verdicts);
+        let before = record_after("B 7 EVENING\nB 9 TEST\nE 9\n");
+        assert_eq!(answer.refusal, Some((15, 4)));
+        assert_eq!(work, pair_bytes(layout, &before));
+        assert_eq!(answer.record, before);
+        assert_eq!(verdicts[..4], [1, 1, 1, 9]);
+    }
 }
 
 #[test]
 fn the_whole_log_call_starts_a_record_itself() {
-    for (log, refusal) in [("", None), ("E 1\n", Some((16, 1))), ("B 1", Some((11, 1)))] {
-        let mut work = vec![0xA5; PAIR_BYTES + 3];
+    let logs = [("", None), ("E 1\n", Some((16, 1))), ("B 1", Some((11, 1)))];
+    for (layout, (log, refusal)) in Layout::ALL.into_iter().flat_map(|layout| logs.map(|log| (layout, log))) {
+        let mut work = vec![0xA5; layout.size() + 3];
         let mut verdicts = vec![9; VERDICT_BYTES];
-        let answer = check_log(&p1(), log.as_bytes(), &mut work, &mut verdicts);
+        let answer = check_log(layout, &p1(), log.as_bytes(), &mut work, &mut verdicts);
         assert_eq!(answer, LogAnswer { record: Record::of_no_lines(), refusal });
-        assert_eq!(work[..PAIR_BYTES], [0; PAIR_BYTES]);
-        assert_eq!(work[PAIR_BYTES..], [0xA5; 3]);
+        assert_eq!(work[..layout.size()], vec![0; layout.size()]);
+        assert_eq!(work[layout.size()..], [0xA5; 3]);
         assert_eq!(verdicts, [9; VERDICT_BYTES]);
     }
 }
 
 #[test]
 fn the_whole_log_call_refused_for_20_or_the_rule_touches_no_buffer() {
-    for (rule, work_length, verdict_length, number) in [
-        (p1(), PAIR_BYTES - 1, VERDICT_BYTES, 20),
-        (p1(), PAIR_BYTES, VERDICT_BYTES - 1, 20),
-        (vec![], PAIR_BYTES, VERDICT_BYTES - 1, 20),
-        (vec![], 0, 0, 20),
-        (vec![], PAIR_BYTES, VERDICT_BYTES, 1),
-        (b"RUX".to_vec(), PAIR_BYTES, VERDICT_BYTES, 2),
+    use Layout::{Half, Square};
+    for (layout, rule, work_length, verdict_length, number) in [
+        (Square, p1(), 16383, VERDICT_BYTES, 20),
+        (Square, p1(), 8128, VERDICT_BYTES, 20),
+        (Square, p1(), 16384, VERDICT_BYTES - 1, 20),
+        (Square, vec![], 16384, VERDICT_BYTES - 1, 20),
+        (Square, vec![], 0, 0, 20),
+        (Square, vec![], 16384, VERDICT_BYTES, 1),
+        (Square, b"RUX".to_vec(), 16384, VERDICT_BYTES, 2),
+        (Half, p1(), 8127, VERDICT_BYTES, 20),
+        (Half, p1(), 8128, VERDICT_BYTES - 1, 20),
+        (Half, vec![], 8127, VERDICT_BYTES, 20),
+        (Half, vec![], 0, 0, 20),
+        (Half, vec![], 8128, VERDICT_BYTES, 1),
+        (Half, b"RUX".to_vec(), 16384, VERDICT_BYTES, 2),
     ] {
         let mut work = vec![0xA5; work_length];
         let mut verdicts = vec![9; verdict_length];
-        let answer = check_log(&rule, b"E 1\n", &mut work, &mut verdicts);
+        let answer = check_log(layout, &rule, b"E 1\n", &mut work, &mut verdicts);
         assert_eq!(answer, LogAnswer { record: Record::of_no_lines(), refusal: Some((number, 0)) });
         assert_eq!(work, vec![0xA5; work_length]);
         assert_eq!(verdicts, vec![9; verdict_length]);
@@ -130,16 +151,16 @@ fn the_whole_log_call_refused_for_20_or_the_rule_touches_no_buffer() {
 
 /// The refusal of the single-line call with a tally; record, work area and tally must
 /// come back the same.
-fn refusal(rule: &[u8], record: &Record, work: &[u8], counts: Tally, line: &str) -> Option<u8> {
+fn refusal(layout: Layout, rule: &[u8], record: &Record, work: &[u8], counts: Tally, line: &str) -> Option<u8> {
     let (mut work_after, mut tally_after) = (work.to_vec(), counts);
-    let answer = check_line_with_tally(rule, record, &mut work_after, &mut tally_after, line.as_bytes());
+    let answer = check_line_with_tally(layout, rule, record, &mut work_after, &mut tally_after, line.as_bytes());
     let number = answer.verdict.err();
     if number.is_some() {
         assert_eq!((&answer.record, work_after.as_slice(), tally_after), (record, work, counts));
     }
     // Without a tally the answer is the same, but for 24.
     let mut work_after = work.to_vec();
-    let without = check_line(rule, record, &mut work_after, line.as_bytes());
+    let without = check_line(layout, rule, record, &mut work_after, line.as_bytes());
     if number != Some(24) {
         assert_eq!(without, answer);
     } else {
@@ -150,48 +171,83 @@ fn refusal(rule: &[u8], record: &Record, work: &[u8], counts: Tally, line: &str)
 
 #[test]
 fn the_order_of_refusals_of_the_single_line_call() {
-    let sound = record_after("B 7 EVENING\n");
-    let mut spoiled = sound.clone();
-    spoiled.lines = 2;
-    let work = work_after("B 7 EVENING\n");
-    let mut wrong_work = work.clone();
-    wrong_work[5] = 1;
-    let right = tally([1, 1, 0, 1, 0]);
-    let wrong = tally([2, 1, 0, 1, 0]);
-    assert_eq!(refusal(&[], &spoiled, &work[..PAIR_BYTES - 1], wrong, "X\n"), Some(20));
-    assert_eq!(refusal(&[], &spoiled, &wrong_work, wrong, "X\n"), Some(1));
-    assert_eq!(refusal(b"RULX", &spoiled, &wrong_work, wrong, "X\n"), Some(1));
-    assert_eq!(refusal(b"RULXX", &spoiled, &wrong_work, wrong, "X\n"), Some(3));
-    assert_eq!(refusal(&p1(), &spoiled, &wrong_work, wrong, "X\n"), Some(21));
-    assert_eq!(refusal(&p1(), &spoiled, &work, wrong, "X\n"), Some(21));
-    assert_eq!(refusal(&p1(), &sound, &wrong_work, wrong, "X\n"), Some(21));
-    assert_eq!(refusal(&p1(), &sound, &work, wrong, "X\n"), Some(24));
-    assert_eq!(refusal(&p1(), &sound, &work, right, "X\n"), Some(11));
-    assert_eq!(refusal(&p1(), &sound, &work, right, "B 70000 x\n"), Some(12));
-    assert_eq!(refusal(&p1(), &sound, &work, right, "B 7 x\n"), Some(13));
-    assert_eq!(refusal(&p1(), &sound, &work, right, "B 7 X\n"), Some(15));
-    assert_eq!(refusal(&p1(), &sound, &work, right, "E 8\n"), Some(16));
-    assert_eq!(refusal(&p1(), &sound, &work, right, "E 7\n"), None);
+    for layout in Layout::ALL {
+        let sound = record_after("B 7 EVENING\n");
+        let mut spoiled = sound.clone();
+        spoiled.lines = 2;
+        let work = work_after(layout, "B 7 EVENING\n");
+        let mut wrong_work = work.clone();
+        wrong_work[5] = 1;
+        let right = tally([1, 1, 0, 1, 0]);
+        let wrong = tally([2, 1, 0, 1, 0]);
+        let met = |rule: &[u8], record: &Record, work: &[u8], counts: Tally, line: &str| {
+            refusal(layout, rule, record, work, counts, line)
+        };
+        assert_eq!(met(&[], &spoiled, &work[..layout.size() - 1], wrong, "X\n"), Some(20));
+        assert_eq!(met(&[], &spoiled, &wrong_work, wrong, "X\n"), Some(1));
+        assert_eq!(met(b"RULX", &spoiled, &wrong_work, wrong, "X\n"), Some(1));
+        assert_eq!(met(b"RULXX", &spoiled, &wrong_work, wrong, "X\n"), Some(3));
+        assert_eq!(met(&p1(), &spoiled, &wrong_work, wrong, "X\n"), Some(21));
+        assert_eq!(met(&p1(), &spoiled, &work, wrong, "X\n"), Some(21));
+        assert_eq!(met(&p1(), &sound, &wrong_work, wrong, "X\n"), Some(21));
+        assert_eq!(met(&p1(), &sound, &work, wrong, "X\n"), Some(24));
+        assert_eq!(met(&p1(), &sound, &work, right, "X\n"), Some(11));
+        assert_eq!(met(&p1(), &sound, &work, right, "B 70000 x\n"), Some(12));
+        assert_eq!(met(&p1(), &sound, &work, right, "B 7 x\n"), Some(13));
+        assert_eq!(met(&p1(), &sound, &work, right, "B 7 X\n"), Some(15));
+        assert_eq!(met(&p1(), &sound, &work, right, "E 8\n"), Some(16));
+        assert_eq!(met(&p1(), &sound, &work, right, "E 7\n"), None);
+    }
 }
 
 #[test]
 fn every_pair_byte_must_be_the_records() {
     let record = record_after(P1_LOG);
     let counts = tally([4, 2, 2, 0, 1]);
-    for at in [0, 1, 2, 127, 128, 129, 16383] {
-        let mut work = work_after(P1_LOG);
-        work[at] ^= 1;
-        assert_eq!(refusal(&p1(), &record, &work, counts, "B 1\n"), Some(21), "{at}");
+    let square = (Layout::Square, vec![0, 1, 2, 127, 128, 129, 8127, 8128, 16383]);
+    // The two runs have one byte, and all behind it are of runs that have not begun.
+    let half = (Layout::Half, vec![0, 1, 2, 127, 128, 8001, 8127]);
+    for (layout, places) in [square, half] {
+        for at in places {
+            let mut work = work_after(layout, P1_LOG);
+            work[at] ^= 1;
+            assert_eq!(refusal(layout, &p1(), &record, &work, counts, "B 1\n"), Some(21), "{layout:?} {at}");
+        }
+        let mut work = work_after(layout, P1_LOG);
+        work[layout.size()] ^= 1;
+        assert_eq!(refusal(layout, &p1(), &record, &work, counts, "B 1\n"), None);
     }
-    let mut work = work_after(P1_LOG);
-    work[PAIR_BYTES] ^= 1;
-    assert_eq!(refusal(&p1(), &record, &work, counts, "B 1\n"), None);
+}
+
+/// The byte of runs 0 and 1 is never 0, and is the first of the half area; the first of the square area is always 0.
+/// So one area is right for both layouts exactly if no two runs have begun, and nothing but 0 stands where the longer
+/// layout has its bytes.
+#[test]
+fn an_area_of_the_other_layout_is_refused_once_two_runs_have_begun() {
+    for (log, number, counts) in [
+        ("", None, [0, 0, 0, 0, 0]),
+        ("B 1\n", None, [1, 1, 0, 1, 0]),
+        ("B 1\nE 1\n", None, [2, 1, 1, 0, 0]),
+        ("B 1\nB 2\n", Some(21), [2, 2, 0, 2, 0]),
+        ("B 1\nE 1\nB 1\n", Some(21), [3, 2, 1, 1, 0]),
+    ] {
+        let (record, counts) = (record_after(log), tally(counts));
+        let met = |layout: Layout, work: &[u8]| refusal(layout, &p1(), &record, work, counts, "B 9\n");
+        let square = work_after(Layout::Square, log);
+        assert_eq!((met(Layout::Square, &square), met(Layout::Half, &square)), (None, number), "{log:?}");
+        let mut half = pair_bytes(Layout::Half, &record);
+        assert_eq!((met(Layout::Half, &half), met(Layout::Square, &half)), (None, Some(20)), "{log:?}");
+        half.resize(16384, 0);
+        assert_eq!((met(Layout::Half, &half), met(Layout::Square, &half)), (None, number), "{log:?}");
+        half[8128] = 1;
+        assert_eq!((met(Layout::Half, &half), met(Layout::Square, &half)), (None, Some(21)), "{log:?}");
+    }
 }
 
 #[test]
 fn a_tally_that_is_not_the_records() {
     let log = "B 7 EVENING\nB 9 TEST\nE 9\n";
-    let (record, work) = (record_after(log), work_after(log));
+    let record = record_after(log);
     for (counts, number) in [
         ([3, 2, 1, 1, 0], None),
         ([3, 2, 1, 1, 3], None),
@@ -203,27 +259,33 @@ fn a_tally_that_is_not_the_records() {
         ([3, 2, 1, 2, 0], Some(24)),
         ([0, 0, 0, 0, 0], Some(24)),
     ] {
-        assert_eq!(refusal(&p1(), &record, &work, tally(counts), "E 7\n"), number, "{counts:?}");
+        for layout in Layout::ALL {
+            let work = work_after(layout, log);
+            assert_eq!(refusal(layout, &p1(), &record, &work, tally(counts), "E 7\n"), number, "{counts:?}");
+        }
     }
 }
 
 #[test]
 fn failing_lines_rise_by_one_exactly_at_a_line_that_fails() {
     let record = record_after(P1_LOG);
-    let mut work = work_after(P1_LOG);
-    let mut counts = tally([4, 2, 2, 0, 3]);
-    // The rule still fails; the 3 handed in is kept.
-    let answer = check_line_with_tally(&p1(), &record, &mut work, &mut counts, b"B 1\n");
-    assert_eq!(answer.verdict, Ok(false));
-    assert_eq!(counts, tally([5, 3, 2, 1, 4]));
+    for layout in Layout::ALL {
+        let mut work = work_after(layout, P1_LOG);
+        let mut counts = tally([4, 2, 2, 0, 3]);
+        // The rule still fails; the 3 handed in is kept.
+        let answer = check_line_with_tally(layout, &p1(), &record, &mut work, &mut counts, b"B 1\n");
+        assert_eq!(answer.verdict, Ok(false));
+        assert_eq!(counts, tally([5, 3, 2, 1, 4]));
+    }
 }
 
 #[test]
 fn a_refused_begin_line_leaves_nothing_behind() {
-    let mut work = vec![0; PAIR_BYTES];
-    let mut record = start_record(&mut work).unwrap();
+    let layout = Layout::Half;
+    let mut work = vec![0; layout.size()];
+    let mut record = start_record(layout, &mut work).unwrap();
     for (line, number) in [("B 1 A\n", None), ("B 1 NEW\n", Some(15)), ("B 2 bad\n", Some(13)), ("B 2 B\n", None)] {
-        let answer = check_line(&p1(), &record, &mut work, line.as_bytes());
+        let answer = check_line(layout, &p1(), &record, &mut work, line.as_bytes());
         assert_eq!(answer.verdict.err(), number);
         record = answer.record;
     }
@@ -233,35 +295,39 @@ fn a_refused_begin_line_leaves_nothing_behind() {
 /// The controller is reset after the third line, while run 1 is open, and counts from 1 again.
 #[test]
 fn an_id_is_used_again_line_by_line() {
-    let mut work = vec![0xA5; PAIR_BYTES + 3];
-    let mut record = start_record(&mut work).unwrap();
-    let mut counts = Tally::default();
-    for (line, answer, expected) in [
-        ("B 1 EVENING\n", Ok(true), [1, 1, 0, 1, 0]),
-        ("B 2 EVENING\n", Ok(true), [2, 2, 0, 2, 0]),
-        ("E 1\n", Ok(true), [3, 2, 1, 1, 0]),
-        ("B 1 TEST\n", Ok(true), [4, 3, 1, 2, 0]),
-        ("B 2\n", Err(15), [4, 3, 1, 2, 0]),
-        ("B 1\n", Err(15), [4, 3, 1, 2, 0]),
-        ("E 1\n", Ok(true), [5, 3, 2, 1, 0]),
-        ("E 1\n", Err(17), [5, 3, 2, 1, 0]),
-        // Run 1 includes run 2; run 0 has the same id as run 2, and overlaps run 1.
-        ("E 2\n", Ok(false), [6, 3, 3, 0, 1]),
-        ("E 2\n", Err(17), [6, 3, 3, 0, 1]),
-        ("E 3\n", Err(16), [6, 3, 3, 0, 1]),
-        ("B 2\n", Ok(false), [7, 4, 3, 1, 2]),
-    ] {
-        let answered = check_line_with_tally(&p1(), &record, &mut work, &mut counts, line.as_bytes());
-        assert_eq!(answered.verdict, answer, "{line}");
-        assert_eq!(counts, tally(expected), "{line}");
-        assert_eq!(work[..PAIR_BYTES], pair_bytes(&answered.record), "{line}");
-        record = answered.record;
-    }
-    assert_eq!(record.runs.map(|run| (run.id, run.begin, run.end))[..4], [(1, 1, 3), (2, 2, 6), (1, 4, 5), (2, 7, 0)]);
-    assert_eq!([1, 2, 3, 130, 131, 259].map(|at| work[at]), [6, 5, 2, 7, 2, 2]);
-    let relations = [(0, 1, Ok(4)), (0, 2, Ok(1)), (2, 0, Ok(2)), (1, 2, Ok(16)), (2, 2, Err(23)), (1, 3, Err(22))];
-    for (first, second, relation) in relations {
-        assert_eq!(relation_between(&record, first, second), relation, "{first} {second}");
+    // Of runs 0 with 1, 2 and 3, of 1 with 2 and 3, of 2 with 3.
+    for (layout, places) in [(Layout::Square, [1, 2, 3, 130, 131, 259]), (Layout::Half, [0, 1, 3, 2, 4, 5])] {
+        let mut work = vec![0xA5; layout.size() + 3];
+        let mut record = start_record(layout, &mut work).unwrap();
+        let mut counts = Tally::default();
+        for (line, answer, expected) in [
+            ("B 1 EVENING\n", Ok(true), [1, 1, 0, 1, 0]),
+            ("B 2 EVENING\n", Ok(true), [2, 2, 0, 2, 0]),
+            ("E 1\n", Ok(true), [3, 2, 1, 1, 0]),
+            ("B 1 TEST\n", Ok(true), [4, 3, 1, 2, 0]),
+            ("B 2\n", Err(15), [4, 3, 1, 2, 0]),
+            ("B 1\n", Err(15), [4, 3, 1, 2, 0]),
+            ("E 1\n", Ok(true), [5, 3, 2, 1, 0]),
+            ("E 1\n", Err(17), [5, 3, 2, 1, 0]),
+            // Run 1 includes run 2; run 0 has the same id as run 2, and overlaps run 1.
+            ("E 2\n", Ok(false), [6, 3, 3, 0, 1]),
+            ("E 2\n", Err(17), [6, 3, 3, 0, 1]),
+            ("E 3\n", Err(16), [6, 3, 3, 0, 1]),
+            ("B 2\n", Ok(false), [7, 4, 3, 1, 2]),
+        ] {
+            let answered = check_line_with_tally(layout, &p1(), &record, &mut work, &mut counts, line.as_bytes());
+            assert_eq!(answered.verdict, answer, "{line}");
+            assert_eq!(counts, tally(expected), "{line}");
+            assert_eq!(work[..layout.size()], pair_bytes(layout, &answered.record), "{line}");
+            record = answered.record;
+        }
+        let runs = record.runs.map(|run| (run.id, run.begin, run.end));
+        assert_eq!(runs[..4], [(1, 1, 3), (2, 2, 6), (1, 4, 5), (2, 7, 0)]);
+        assert_eq!(places.map(|at| work[at]), [6, 5, 2, 7, 2, 2]);
+        let relations = [(0, 1, Ok(4)), (0, 2, Ok(1)), (2, 0, Ok(2)), (1, 2, Ok(16)), (2, 2, Err(23)), (1, 3, Err(22))];
+        for (first, second, relation) in relations {
+            assert_eq!(relation_between(&record, first, second), relation, "{first} {second}");
+        }
     }
 }
 
@@ -269,7 +335,7 @@ fn an_id_is_used_again_line_by_line() {
 #[test]
 fn no_lines_leave_a_record_in_which_two_runs_of_one_id_are_open_at_a_time() {
     let log = "B 1\nB 2\nE 1\nB 3\n";
-    let (sound, work) = (record_after(log), work_after(log));
+    let sound = record_after(log);
     let counts = tally([4, 3, 1, 2, 0]);
     for (run, id, number) in [
         (0, 2, Some(21)),
@@ -281,33 +347,38 @@ fn no_lines_leave_a_record_in_which_two_runs_of_one_id_are_open_at_a_time() {
     ] {
         let mut record = sound.clone();
         record.runs[run].id = id;
-        assert_eq!(refusal(&p1(), &record, &work, counts, "B 9\n"), number, "run {run}, id {id}");
+        for layout in Layout::ALL {
+            let work = work_after(layout, log);
+            assert_eq!(refusal(layout, &p1(), &record, &work, counts, "B 9\n"), number, "run {run}, id {id}");
+        }
         assert_eq!(relation_between(&record, 0, 0), Err(number.unwrap_or(23)), "run {run}, id {id}");
     }
 }
 
 #[test]
 fn runs_and_labels_at_the_edges() {
-    let mut log: String = (1..=128).map(|id| format!("B {id} L{}\n", id % 64)).collect();
-    let counts = tally([128, 128, 0, 128, 0]);
-    let (record, work) = (record_after(&log), work_after(&log));
-    assert_eq!(refusal(&p1(), &record, &work, counts, "B 129 NEW\n"), Some(18));
-    assert_eq!(refusal(&p1(), &record, &work, counts, "B 128 NEW\n"), Some(15));
-    assert_eq!(refusal(&p1(), &record, &work, counts, "E 128\n"), None);
-    for id in 1..=128 {
-        log += &format!("E {id}\n");
+    for layout in Layout::ALL {
+        let met = |log: &str, counts: [u64; 5], line: &str| {
+            refusal(layout, &p1(), &record_after(log), &work_after(layout, log), tally(counts), line)
+        };
+        let mut log: String = (1..=128).map(|id| format!("B {id} L{}\n", id % 64)).collect();
+        let counts = [128, 128, 0, 128, 0];
+        assert_eq!(met(&log, counts, "B 129 NEW\n"), Some(18));
+        assert_eq!(met(&log, counts, "B 128 NEW\n"), Some(15));
+        assert_eq!(met(&log, counts, "E 128\n"), None);
+        for id in 1..=128 {
+            log += &format!("E {id}\n");
+        }
+        let counts = [256, 128, 128, 0, 0];
+        assert_eq!(met(&log, counts, "B 128\n"), Some(18));
+        assert_eq!(met(&log, counts, "E 128\n"), Some(17));
+        assert_eq!(met(&log, counts, "E 129\n"), Some(16));
+        let log: String = (1..=64).map(|id| format!("B {id} L{id}\n")).collect();
+        let counts = [64, 64, 0, 64, 0];
+        assert_eq!(met(&log, counts, "B 65 NEW\n"), Some(19));
+        assert_eq!(met(&log, counts, "B 65 L1\n"), None);
+        assert_eq!(met(&log, counts, "B 65\n"), None);
     }
-    let (record, work) = (record_after(&log), work_after(&log));
-    let counts = tally([256, 128, 128, 0, 0]);
-    assert_eq!(refusal(&p1(), &record, &work, counts, "B 128\n"), Some(18));
-    assert_eq!(refusal(&p1(), &record, &work, counts, "E 128\n"), Some(17));
-    assert_eq!(refusal(&p1(), &record, &work, counts, "E 129\n"), Some(16));
-    let log: String = (1..=64).map(|id| format!("B {id} L{id}\n")).collect();
-    let (record, work) = (record_after(&log), work_after(&log));
-    let counts = tally([64, 64, 0, 64, 0]);
-    assert_eq!(refusal(&p1(), &record, &work, counts, "B 65 NEW\n"), Some(19));
-    assert_eq!(refusal(&p1(), &record, &work, counts, "B 65 L1\n"), None);
-    assert_eq!(refusal(&p1(), &record, &work, counts, "B 65\n"), None);
 }
 
 #[test]

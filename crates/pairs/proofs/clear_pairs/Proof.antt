@@ -1,5 +1,5 @@
--- The loop's invariant: the buffer is k zeros, and then what was there from place k on. After 16,384 turns the zeros are
--- the pair bytes of no runs.
+-- The loop's invariant: the buffer is k zeros, and then what was there from place k on. After as many turns as the layout has
+-- bytes the zeros are the pair bytes of no runs.
 use Prim.Native.Nat.{_-_, _≤_}
 use mathlib.Core.Path.{_≡_, refl}
 use mathlib.Core.List.{_++_}
@@ -10,11 +10,14 @@ use Rattle.pairs.proofs.clear_pairs.Statement.{statement}
 use Rattle.pairs.proofs.clear_pairs.Tie as tie
 
 abbrev Inv-loop : tie.InvT-loop
-Inv-loop work₀ k₀ work k =
-    (k ≤ 16384) × (length work ≡ length work₀) × (work ≡ replicate k 0 ++ drop k work₀)
+Inv-loop work₀ end k₀ work k =
+    (k ≤ end) × (length work ≡ length work₀) × (work ≡ replicate k 0 ++ drop k work₀)
 
 abbrev μ-loop : tie.MeasureT-loop
-μ-loop work₀ k₀ work k = 16384 - k
+μ-loop work₀ end k₀ work k = end - k
+
+work-bytes-requires : tie.Need-work-bytes-requires Inv-loop μ-loop
+work-bytes-requires c κs = search needs
 
 loop-holds : tie.Need-loop-holds Inv-loop μ-loop
 loop-holds c = (search needs, refl, refl)
@@ -32,14 +35,15 @@ loop-again : tie.Need-loop-again Inv-loop μ-loop
 loop-again c = (
   search needs,
   simp length-set (search needs),
-  clear-next (c .before .loop .work) (c .before .before .args .work .now) (c .before .loop .k) (search needs) (c .before .loop .inv .2),
+  clear-next (c .before .loop .work) (c .before .before .before .before .args .work .now) (c .before .loop .k) (search needs) (c .before .loop .inv .2),
 )
 
 same-length : tie.Need-same-length Inv-loop μ-loop
 same-length c = search needs
 
 returns : tie.Need-returns Inv-loop μ-loop
-returns c = clear-all (c .before .loop .work) (c .before .before .args .work .now) (c .before .loop .k) (search needs) (c .before .loop .inv .2)
+returns c =
+    clear-all (c .before .before .before .before .args .layout) (c .before .loop .work) (c .before .before .before .before .args .work .now) (c .before .loop .k) (search needs) (c .before .loop .inv .2)
 
 pub clear-pairs-spec : {M : Type 1} → statement M
 clear-pairs-spec =
@@ -47,6 +51,7 @@ clear-pairs-spec =
     (tie.spec
     Inv-loop
     μ-loop
+    work-bytes-requires
     loop-holds
     slice-write-work
     add-k

@@ -7,6 +7,9 @@ use Rattle.pairs.proofs.start_record.Tie as tie
 no-lines-requires : tie.Need-no-lines-requires
 no-lines-requires c κs = search needs
 
+work-bytes-requires : tie.Need-work-bytes-requires
+work-bytes-requires c κs = search needs
+
 returns : tie.Need-returns
 returns c = search starts
 
@@ -21,4 +24,11 @@ returns-2 c = search starts
 
 pub start-record-spec : {M : Type 1} → statement M
 start-record-spec =
-    tie.close (tie.spec no-lines-requires returns clear-pairs-requires same-length returns-2)
+    tie.close
+    (tie.spec
+    no-lines-requires
+    work-bytes-requires
+    returns
+    clear-pairs-requires
+    same-length
+    returns-2)

@@ -7,10 +7,10 @@ use Rattle.pairs_test.proofs.run.Statement.{statement}
 use Rattle.pairs_test.proofs.run.Tie as tie
 
 abbrev Inv-loop : tie.InvT-loop
-Inv-loop input work₀ r₀ n₀ at₀ work r n at = (0 ≤ at) × (length work ≡ length work₀)
+Inv-loop input work₀ l₀ r₀ n₀ at₀ work l r n at = (0 ≤ at) × (length work ≡ length work₀)
 
 abbrev μ-loop : tie.MeasureT-loop
-μ-loop input work₀ r₀ n₀ at₀ work r n at = length input - at
+μ-loop input work₀ l₀ r₀ n₀ at₀ work l r n at = length input - at
 
 no-lines-requires : tie.Need-no-lines-requires Inv-loop μ-loop
 no-lines-requires c κs = search needs
@@ -20,6 +20,18 @@ loop-holds c = search needs
 
 case-at-requires : tie.Need-case-at-requires Inv-loop μ-loop
 case-at-requires c κs = search needs
+
+sub-layout : tie.Need-sub-layout Inv-loop μ-loop
+sub-layout c = search needs
+
+part-layout-start : tie.Need-part-layout-start Inv-loop μ-loop
+part-layout-start c = search needs
+
+part-layout-end : tie.Need-part-layout-end Inv-loop μ-loop
+part-layout-end c = search needs
+
+layout-requires : tie.Need-layout-requires Inv-loop μ-loop
+layout-requires c κs = search needs
 
 sub-sized : tie.Need-sub-sized Inv-loop μ-loop
 sub-sized c = search needs
@@ -66,6 +78,10 @@ run-spec =
     no-lines-requires
     loop-holds
     case-at-requires
+    sub-layout
+    part-layout-start
+    part-layout-end
+    layout-requires
     sub-sized
     part-sized-start
     part-sized-end

@@ -2,10 +2,9 @@ use Rattle.report.proofs.ReportCall.{short-work, short-verdicts, short-
 use borrow.Author.Needs.{needs}
 use Rattle.report.proofs.report.Statement.{statement}
 use Rattle.report.proofs.report.Tie as tie
-use Rattle.report.proofs.report.Reads as reads
-use Rattle.report.proofs.report.Lts as lts
-use Rattle.whole_log.proofs.check_log.Reads as check-log-reads
-use Rattle.report.proofs.put_record.Reads as put-record-reads
+
+work-bytes-requires : tie.Need-work-bytes-requires
+work-bytes-requires c κs = search needs
 
 returns : tie.Need-returns
 returns c = search short-work
@@ -38,6 +37,7 @@ pub report-spec : {M : Type 1} → statement M
 report-spec =
     tie.close
     (tie.spec
+    work-bytes-requires
     returns
     returns-2
     returns-3

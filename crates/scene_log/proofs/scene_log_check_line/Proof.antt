@@ -1,20 +1,18 @@
--- The single-line call is asked of the record that the bytes hold, and its answer is kept in them.
-use Rattle.scene_log.proofs.InBytes.{line-no-record, line-checked}
+-- The number names a layout, and the call is that in the layout; or it names none, and nothing is touched.
+use mathlib.Core.Path.{refl}
+use Rattle.answer_numbers.proofs.Numbered.{by-layout, no-layout}
 use borrow.Author.Needs.{needs}
 use Rattle.scene_log.proofs.scene_log_check_line.Statement.{statement}
 use Rattle.scene_log.proofs.scene_log_check_line.Tie as tie
 
 returns : tie.Need-returns
-returns c = search line-no-record
+returns c = no-layout _ _ _ (search needs) refl
 
-unpack-requires : tie.Need-unpack-requires
-unpack-requires c κs = search needs
+layout-of-requires : tie.Need-layout-of-requires
+layout-of-requires c κs = search needs
 
 check-line-requires : tie.Need-check-line-requires
 check-line-requires c κs = search needs
-
-keep-record-requires : tie.Need-keep-record-requires
-keep-record-requires c κs = search needs
 
 same-length : tie.Need-same-length
 same-length c = search needs
@@ -23,16 +21,9 @@ same-length-2 : tie.Need-same-length-2
 same-length-2 c = search needs
 
 returns-2 : tie.Need-returns-2
-returns-2 c = search line-checked
+returns-2 c = search (by-layout, needs)
 
 pub scene-log-check-line-spec : {M : Type 1} → statement M
 scene-log-check-line-spec =
     tie.close
-    (tie.spec
-    returns
-    unpack-requires
-    check-line-requires
-    keep-record-requires
-    same-length
-    same-length-2
-    returns-2)
+    (tie.spec returns layout-of-requires check-line-requires same-length same-length-2 returns-2)

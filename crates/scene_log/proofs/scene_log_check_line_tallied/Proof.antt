@@ -1,26 +1,18 @@
--- The call with a tally is asked of the record that the bytes hold and the tally that the numbers are, and its answer is kept in both.
-use Rattle.scene_log.proofs.InBytes.{with-tally}
+-- The number names a layout, and the call is that in the layout; or it names none, and nothing is touched.
+use mathlib.Core.Path.{refl}
+use Rattle.answer_numbers.proofs.Numbered.{by-layout, no-layout}
 use borrow.Author.Needs.{needs}
 use Rattle.scene_log.proofs.scene_log_check_line_tallied.Statement.{statement}
 use Rattle.scene_log.proofs.scene_log_check_line_tallied.Tie as tie
 
 returns : tie.Need-returns
-returns c = search with-tally
+returns c = no-layout _ _ _ (search needs) refl
 
-returns-2 : tie.Need-returns-2
-returns-2 c = search with-tally
-
-unpack-requires : tie.Need-unpack-requires
-unpack-requires c κs = search needs
-
-tally-from-requires : tie.Need-tally-from-requires
-tally-from-requires c κs = search needs
+layout-of-requires : tie.Need-layout-of-requires
+layout-of-requires c κs = search needs
 
 check-line-tallied-requires : tie.Need-check-line-tallied-requires
 check-line-tallied-requires c κs = search needs
-
-keep-tallied-requires : tie.Need-keep-tallied-requires
-keep-tallied-requires c κs = search needs
 
 same-length : tie.Need-same-length
 same-length c = search needs
@@ -31,20 +23,17 @@ same-length-2 c = search needs
 same-length-3 : tie.Need-same-length-3
 same-length-3 c = search needs
 
-returns-3 : tie.Need-returns-3
-returns-3 c = search with-tally
+returns-2 : tie.Need-returns-2
+returns-2 c = search (by-layout, needs)
 
 pub scene-log-check-line-tallied-spec : {M : Type 1} → statement M
 scene-log-check-line-tallied-spec =
     tie.close
     (tie.spec
     returns
-    returns-2
-    unpack-requires
-    tally-from-requires
+    layout-of-requires
     check-line-tallied-requires
-    keep-tallied-requires
     same-length
     same-length-2
     same-length-3
-    returns-3)
+    returns-2)

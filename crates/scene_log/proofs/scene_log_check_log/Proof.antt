@@ -1,14 +1,18 @@
--- The buffers are those that the whole-log call leaves, and the answer is the number of what it answers.
-use Rattle.scene_log.proofs.Numbered.{checks}
+-- The number names a layout, and the call is that in the layout; or it names none, and nothing is touched.
+use mathlib.Core.Path.{refl}
+use Rattle.answer_numbers.proofs.Numbered.{by-layout, no-layout}
 use borrow.Author.Needs.{needs}
 use Rattle.scene_log.proofs.scene_log_check_log.Statement.{statement}
 use Rattle.scene_log.proofs.scene_log_check_log.Tie as tie
 
+returns : tie.Need-returns
+returns c = no-layout _ _ _ (search needs) refl
+
+layout-of-requires : tie.Need-layout-of-requires
+layout-of-requires c κs = search needs
+
 check-log-requires : tie.Need-check-log-requires
 check-log-requires c κs = search needs
-
-log-number-requires : tie.Need-log-number-requires
-log-number-requires c κs = search needs
 
 same-length : tie.Need-same-length
 same-length c = search needs
@@ -16,9 +20,10 @@ same-length c = search needs
 same-length-2 : tie.Need-same-length-2
 same-length-2 c = search needs
 
-returns : tie.Need-returns
-returns c = search checks
+returns-2 : tie.Need-returns-2
+returns-2 c = search (by-layout, needs)
 
 pub scene-log-check-log-spec : {M : Type 1} → statement M
 scene-log-check-log-spec =
-    tie.close (tie.spec check-log-requires log-number-requires same-length same-length-2 returns)
+    tie.close
+    (tie.spec returns layout-of-requires check-log-requires same-length same-length-2 returns-2)

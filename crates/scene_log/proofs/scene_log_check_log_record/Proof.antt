@@ -1,17 +1,18 @@
--- The buffers are those that the whole-log call leaves, and its record is kept in the bytes.
-use Rattle.scene_log.proofs.InBytes.{log-no-record, log-kept}
+-- The number names a layout, and the call is that in the layout; or it names none, and nothing is touched.
+use mathlib.Core.Path.{refl}
+use Rattle.answer_numbers.proofs.Numbered.{by-layout, no-layout}
 use borrow.Author.Needs.{needs}
 use Rattle.scene_log.proofs.scene_log_check_log_record.Statement.{statement}
 use Rattle.scene_log.proofs.scene_log_check_log_record.Tie as tie
 
 returns : tie.Need-returns
-returns c = search log-no-record
+returns c = no-layout _ _ _ (search needs) refl
 
-check-log-requires : tie.Need-check-log-requires
-check-log-requires c κs = search needs
+layout-of-requires : tie.Need-layout-of-requires
+layout-of-requires c κs = search needs
 
-keep-log-requires : tie.Need-keep-log-requires
-keep-log-requires c κs = search needs
+check-log-record-requires : tie.Need-check-log-record-requires
+check-log-record-requires c κs = search needs
 
 same-length : tie.Need-same-length
 same-length c = search needs
@@ -23,15 +24,15 @@ same-length-3 : tie.Need-same-length-3
 same-length-3 c = search needs
 
 returns-2 : tie.Need-returns-2
-returns-2 c = search log-kept
+returns-2 c = search (by-layout, needs)
 
 pub scene-log-check-log-record-spec : {M : Type 1} → statement M
 scene-log-check-log-record-spec =
     tie.close
     (tie.spec
     returns
-    check-log-requires
-    keep-log-requires
+    layout-of-requires
+    check-log-record-requires
     same-length
     same-length-2
     same-length-3

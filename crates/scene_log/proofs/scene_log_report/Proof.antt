@@ -1,14 +1,18 @@
--- The buffers are those that the report leaves, and the answer is the number of what it answers.
-use Rattle.scene_log.proofs.Numbered.{reports}
+-- The number names a layout, and the call is that in the layout; or it names none, and nothing is touched.
+use mathlib.Core.Path.{refl}
+use Rattle.answer_numbers.proofs.Numbered.{by-layout, no-layout}
 use borrow.Author.Needs.{needs}
 use Rattle.scene_log.proofs.scene_log_report.Statement.{statement}
 use Rattle.scene_log.proofs.scene_log_report.Tie as tie
 
+returns : tie.Need-returns
+returns c = no-layout _ _ _ (search needs) refl
+
+layout-of-requires : tie.Need-layout-of-requires
+layout-of-requires c κs = search needs
+
 report-requires : tie.Need-report-requires
 report-requires c κs = search needs
-
-report-number-requires : tie.Need-report-number-requires
-report-number-requires c κs = search needs
 
 same-length : tie.Need-same-length
 same-length c = search needs
@@ -19,16 +23,17 @@ same-length-2 c = search needs
 same-length-3 : tie.Need-same-length-3
 same-length-3 c = search needs
 
-returns : tie.Need-returns
-returns c = search reports
+returns-2 : tie.Need-returns-2
+returns-2 c = search (by-layout, needs)
 
 pub scene-log-report-spec : {M : Type 1} → statement M
 scene-log-report-spec =
     tie.close
     (tie.spec
+    returns
+    layout-of-requires
     report-requires
-    report-number-requires
     same-length
     same-length-2
     same-length-3
-    returns)
+    returns-2)

@@ -4,59 +4,48 @@ use borrow.Author.Needs.{needs}
 use Rattle.tallies.proofs.check_line_tallied.Statement.{statement}
 use Rattle.tallies.proofs.check_line_tallied.Tie as tie
 
--- src/lib.rt:110:9
+work-bytes-requires : tie.Need-work-bytes-requires
+work-bytes-requires c κs = search needs
+
 refuse-tallied-requires : tie.Need-refuse-tallied-requires
 refuse-tallied-requires c κs = search needs
 
--- src/lib.rt:110:9
 returns : tie.Need-returns
 returns c = search tallied-short
 
--- src/lib.rt:112:9
 read-rule-requires : tie.Need-read-rule-requires
 read-rule-requires c κs = search needs
 
--- src/lib.rt:114:27
 enum-known-x : tie.Need-enum-known-x
 enum-known-x c = search needs
 
--- src/lib.rt:114:33
 refuse-tallied-requires-2 : tie.Need-refuse-tallied-requires-2
 refuse-tallied-requires-2 c κs = search needs
 
--- src/lib.rt:114:33
 returns-2 : tie.Need-returns-2
 returns-2 c = search tallied-unruled
 
--- src/lib.rt:115:24
 enum-known-x-2 : tie.Need-enum-known-x-2
 enum-known-x-2 c = search needs
 
--- src/lib.rt:116:17
 known-requires : tie.Need-known-requires
 known-requires c κs = search needs
 
--- src/lib.rt:117:17
 refuse-tallied-requires-3 : tie.Need-refuse-tallied-requires-3
 refuse-tallied-requires-3 c κs = search needs
 
--- src/lib.rt:117:17
 same-length : tie.Need-same-length
 same-length c = search needs
 
--- src/lib.rt:117:17
 returns-3 : tie.Need-returns-3
 returns-3 c = search tallied-unknown
 
--- src/lib.rt:119:13
 advance-tallied-requires : tie.Need-advance-tallied-requires
-advance-tallied-requires c κs = (search rule-taken, standing-known _ _ _ (c .before .before .known .ensures) (c .before .if2 .left))
+advance-tallied-requires c κs = (search rule-taken, standing-known _ _ _ _ (c .before .before .known .ensures) (c .before .if2 .left))
 
--- src/lib.rt:119:13
 same-length-2 : tie.Need-same-length-2
 same-length-2 c = search needs
 
--- src/lib.rt:119:13
 returns-4 : tie.Need-returns-4
 returns-4 c = search tallied-known
 
@@ -64,6 +53,7 @@ pub check-line-tallied-spec : {M : Type 1} → statement M
 check-line-tallied-spec =
     tie.close
     (tie.spec
+    work-bytes-requires
     refuse-tallied-requires
     returns
     read-rule-requires

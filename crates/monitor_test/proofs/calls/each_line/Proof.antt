@@ -7,10 +7,10 @@ use Rattle.monitor_test.proofs.calls.each_line.Statement.{statement}
 use Rattle.monitor_test.proofs.calls.each_line.Tie as tie
 
 abbrev Inv-loop : tie.InvT-loop
-Inv-loop kind file work₀ log q₀ place₀ left₀ work q place left = (left ≤ 256) × (length work ≡ length work₀)
+Inv-loop l kind file work₀ log q₀ place₀ left₀ work q place left = (left ≤ 256) × (length work ≡ length work₀)
 
 abbrev μ-loop : tie.MeasureT-loop
-μ-loop kind file work₀ log q₀ place₀ left₀ work q place left = left
+μ-loop l kind file work₀ log q₀ place₀ left₀ work q place left = left
 
 loop-holds : tie.Need-loop-holds Inv-loop μ-loop
 loop-holds c = search needs

@@ -6,17 +6,16 @@ use native.Mathlib.Omega.{arith}
 use borrow.Author.Needs.{needs}
 use Rattle.lists.specs.Tells.{Tells}
 use Rattle.lists.proofs.Tells.{tell-yes}
-use Rattle.pairs.specs.Grid.{workSize}
 use Rattle.pairs.specs.Code.{SameTo}
 use Rattle.pairs.proofs.Match.{same-hit, same-more}
-use Rattle.pairs.proofs.same_pairs.Statement.{statement}
-use Rattle.pairs.proofs.same_pairs.Tie as tie
+use Rattle.pairs.proofs.same_bytes.Statement.{statement}
+use Rattle.pairs.proofs.same_bytes.Tie as tie
 
 abbrev Inv-loop : tie.InvT-loop
-Inv-loop work right same₀ i₀ same i = (i ≤ workSize) × Tells same (SameTo i work right)
+Inv-loop work right end same₀ i₀ same i = (i ≤ end) × Tells same (SameTo i work right)
 
 abbrev μ-loop : tie.MeasureT-loop
-μ-loop work right same₀ i₀ same i = workSize - i
+μ-loop work right end same₀ i₀ same i = end - i
 
 loop-holds : tie.Need-loop-holds Inv-loop μ-loop
 loop-holds c = (search needs, tell-yes (λ j p. absurd (omega arith)))
@@ -38,11 +37,11 @@ loop-again c = (search needs, ⊎-elim (λ w. search same-hit) (λ w. search sam
 
 returns : tie.Need-returns Inv-loop μ-loop
 returns c =
-    let e : c .before .loop .i ≡ workSize = omega arith in
+    let e : c .before .loop .i ≡ c .before .before .args .end = omega arith in
     rw e at (c .before .loop .inv .1)
 
-pub same-pairs-spec : {M : Type 1} → statement M
-same-pairs-spec =
+pub same-bytes-spec : {M : Type 1} → statement M
+same-bytes-spec =
     tie.close
     (tie.spec
     Inv-loop

@@ -96,9 +96,10 @@ static inline uint32_t scene_log_lines(scene_log_answer answer) {
  * call and stay as they are. Any number but these two names no layout: it is refused with 20, whatever the length, and nothing
  * is written.
  *
- * An area is handed over in the layout in which it was written. One of the other layout is 21 once two runs have begun (20 if it
- * is too short). Before that all pair bytes are 0: the half layout then takes a square area, and the square layout takes a half
- * area with nothing but 0 behind it up to 16,384 bytes. */
+ * An area is handed over in the layout in which it was written. A call on one line whose rule is taken refuses one of the other
+ * layout with 21 once two runs have begun (with 20 if it is too short); the calls that start a record overwrite it. With fewer
+ * runs all pair bytes are 0: the half layout then takes a square area, and the square layout takes a half area with nothing but
+ * 0 behind it up to 16,384 bytes. */
 enum scene_log_layout {
     SCENE_LOG_SQUARE = 0,
     SCENE_LOG_HALF = 1

@@ -5,9 +5,10 @@ use crate::{HALF_WORK_BYTES, WORK_BYTES};
 /// Where the pair bytes stand in a work area. A pair is two runs x < y, begun in that order; its byte says in which order
 /// their lines have come. Verdicts, refusals, relations and tallies are the same in either layout.
 ///
-/// A work area is read in the layout in which it was written. In a call that names the other one it is refused with
-/// [`Refusal::NoRecord`](crate::Refusal::NoRecord), or with [`Refusal::ShortBuffer`](crate::Refusal::ShortBuffer) where
-/// it is too short for that. While fewer than two runs have begun all pair bytes are 0, and an area may pass for both.
+/// A work area is read in the layout in which it was written. A call on one line that names the other one, and whose
+/// rule is taken, refuses it with [`Refusal::NoRecord`](crate::Refusal::NoRecord), or with
+/// [`Refusal::ShortBuffer`](crate::Refusal::ShortBuffer) where it is too short for that. While fewer than two runs have
+/// begun all pair bytes are 0, and an area may pass for both.
 ///
 /// ```
 /// use scene_log::{check_line, Check, Layout, Refusal};

@@ -1,5 +1,6 @@
-/* Checks a log with the rule "some run is before another", which is typed: at once in the square layout of a work area, and
- * line by line in the half one. Then shows the runs that break the rule "no run is before another". */
+/* Checks a log with the rule "some run is before another", which is typed: at once in the square layout of a work area,
+ * up to the first line that fails and in full, and line by line in the half layout. Then shows the runs that break the
+ * rule "no run is before another". */
 #include <stdio.h>
 #include <string.h>
 #include "scene_log.h"
@@ -31,13 +32,19 @@ static int read_rule(void) {
     return !SCENE_LOG_REFUSED(answer);
 }
 
-/* Prints the report of the whole log. */
-static int report_log(void) {
+/* Prints the report of the log in this mode. */
+static int report_log(uint32_t mode) {
     static const char log[] = "B 1 EVENING\nE 1\nB 2 TEST\nE 2\n";
-    scene_log_answer answer = scene_log_report(SCENE_LOG_SQUARE, rule, rule_length, (const uint8_t *)log, strlen(log),
-                                               work, sizeof work, verdicts, sizeof verdicts, text, sizeof text);
+    scene_log_answer answer = scene_log_report(SCENE_LOG_SQUARE, mode, rule, rule_length,
+                                               (const uint8_t *)log, strlen(log), work, sizeof work,
+                                               verdicts, sizeof verdicts, text, sizeof text);
     size_t length = SCENE_LOG_VALUE(answer);
     return !SCENE_LOG_REFUSED(answer) && fwrite(text, 1, length, stdout) == length;
+}
+
+/* The rule fails with line 1, so what is printed up to the first failure has one line and the tally. */
+static int both_reports(void) {
+    return report_log(SCENE_LOG_FIRST_FAILURE) && report_log(SCENE_LOG_FULL);
 }
 
 /* Takes the lines one by one, as they come, with a tally; the last one is refused. The work area has the half layout. */
@@ -67,7 +74,7 @@ static int line_by_line(void) {
 static int record_of_log(void) {
     scene_log_verdict verdict;
     static const char log[] = "B 1\nB 2\nE 1\nE 2\nE 3\n";
-    scene_log_answer answer = scene_log_check_log_record(SCENE_LOG_SQUARE, rule, rule_length,
+    scene_log_answer answer = scene_log_check_log_record(SCENE_LOG_SQUARE, SCENE_LOG_FULL, rule, rule_length,
                                                          (const uint8_t *)log, strlen(log), record, sizeof record,
                                                          work, sizeof work, verdicts, sizeof verdicts);
     if (SCENE_LOG_REFUSED(answer)) {
@@ -99,10 +106,12 @@ static int show_slip(void) {
     rule_length = SCENE_LOG_VALUE(answer);
     if (SCENE_LOG_REFUSED(answer))
         return 0;
-    answer = scene_log_check_log_record(SCENE_LOG_SQUARE, rule, rule_length, (const uint8_t *)log, strlen(log),
-                                        record, sizeof record, work, sizeof work, verdicts, sizeof verdicts);
+    answer = scene_log_check_log_record(SCENE_LOG_SQUARE, SCENE_LOG_FIRST_FAILURE, rule, rule_length,
+                                        (const uint8_t *)log, strlen(log), record, sizeof record,
+                                        work, sizeof work, verdicts, sizeof verdicts);
     if (SCENE_LOG_REFUSED(answer))
         return 0;
+    printf("%u lines are taken up to the first failure\n", (unsigned)SCENE_LOG_LINES(answer));
     answer = scene_log_first_slip(rule, rule_length, record, sizeof record, slip, sizeof slip);
     if (SCENE_LOG_REFUSED(answer) || SCENE_LOG_VALUE(answer) != 2)
         return 0;
@@ -113,5 +122,5 @@ static int show_slip(void) {
 }
 
 int main(void) {
-    return read_rule() && report_log() && line_by_line() && record_of_log() && show_slip() ? 0 : 1;
+    return read_rule() && both_reports() && line_by_line() && record_of_log() && show_slip() ? 0 : 1;
 }

@@ -105,6 +105,24 @@ enum scene_log_layout {
     SCENE_LOG_HALF = 1
 };
 
+/* How far a log is read, which the three calls on a whole log are told second.
+ *
+ * - First failure: through the first line with which the rule fails. That line is taken and counts. Nothing behind it
+ *   is read: it meets no refusal, and record, work area, verdict bytes and report are those of the lines through that
+ *   one.
+ * - Full: to the end of the log.
+ *
+ * In either mode a refused line ends the log. So the two differ only where a line fails and something stands behind it.
+ * Any other number counts as 0, the first failure.
+ *
+ * The mode is a change of these three calls that an old object file does not notice. One that was compiled with a
+ * header without it is linked all the same, hands over an argument fewer, and so each buffer in the wrong place.
+ * Compile it anew, and name SCENE_LOG_FULL where the verdicts of all lines are wanted. */
+enum scene_log_mode {
+    SCENE_LOG_FIRST_FAILURE = 0,
+    SCENE_LOG_FULL = 1
+};
+
 /* The refusals. */
 enum scene_log_refusal {
     SCENE_LOG_RULE_ENDS_EARLY = 1,
@@ -214,26 +232,29 @@ scene_log_answer scene_log_rule_from_text(const uint8_t *text, size_t text_lengt
 SCENE_LOG_CALL SCENE_LOG_NOT_NULL(3)
 scene_log_answer scene_log_text_from_rule(const uint8_t *rule, size_t rule_length, uint8_t *text, size_t text_length);
 
-/* The whole output of the check for a rule file and a log, written to the start of text. Value: its length. It ends in LF and
- * has no byte 0 at its end. Refused with 20 alone, and then nothing is written; what the rule and the lines meet is printed. */
-SCENE_LOG_CALL SCENE_LOG_NOT_NULL(6, 8, 10)
-scene_log_answer scene_log_report(uint32_t layout, const uint8_t *rule, size_t rule_length,
+/* The whole output of the check for a rule file and a log in this mode, written to the start of text. Value: its
+ * length. It ends in LF and has no byte 0 at its end. Refused with 20 alone, and then nothing is written; what the rule
+ * and the lines that are read meet is printed. With the first failure as the mode, the tally follows the first F line,
+ * and is that of the lines through it. */
+SCENE_LOG_CALL SCENE_LOG_NOT_NULL(7, 9, 11)
+scene_log_answer scene_log_report(uint32_t layout, uint32_t mode, const uint8_t *rule, size_t rule_length,
                                   const uint8_t *log, size_t log_length, uint8_t *work, size_t work_length,
                                   uint8_t *verdicts, size_t verdicts_length, uint8_t *text, size_t text_length);
 
-/* Reads a whole log with a rule file. For each line that is taken a verdict byte is written, 1 holds, 0 fails; the other
- * verdict bytes stay as they are. Value: how many lines were taken, which is all of them; or, with a refusal, the number of the
- * refused line, and the lines before it were taken. With 20 or 1 to 10 no line was read, the value is 0 and no buffer was
- * written. SCENE_LOG_LINES and SCENE_LOG_REFUSED_LINE read it. */
-SCENE_LOG_CALL SCENE_LOG_NOT_NULL(6, 8)
-scene_log_answer scene_log_check_log(uint32_t layout, const uint8_t *rule, size_t rule_length,
+/* Reads a log with a rule file, in this mode. For each line that is taken a verdict byte is written, 1 holds, 0 fails;
+ * the other verdict bytes stay as they are. Value: how many lines were taken, which is all of them, or with the first
+ * failure as the mode those through that one; or, with a refusal, the number of the refused line, and the lines before
+ * it were taken. With 20 or 1 to 10 no line was read, the value is 0 and no buffer was written. SCENE_LOG_LINES and
+ * SCENE_LOG_REFUSED_LINE read it. */
+SCENE_LOG_CALL SCENE_LOG_NOT_NULL(7, 9)
+scene_log_answer scene_log_check_log(uint32_t layout, uint32_t mode, const uint8_t *rule, size_t rule_length,
                                      const uint8_t *log, size_t log_length, uint8_t *work, size_t work_length,
                                      uint8_t *verdicts, size_t verdicts_length);
 
-/* The same, and the record of the lines that were taken is written to the front of record: with its work area it is ready for
- * the next line, in the same layout. */
-SCENE_LOG_CALL SCENE_LOG_NOT_NULL(6, 8, 10)
-scene_log_answer scene_log_check_log_record(uint32_t layout, const uint8_t *rule, size_t rule_length,
+/* The same, and the record of the lines that were taken is written to the front of record: with its work area it is
+ * ready for the next line, in the same layout. */
+SCENE_LOG_CALL SCENE_LOG_NOT_NULL(7, 9, 11)
+scene_log_answer scene_log_check_log_record(uint32_t layout, uint32_t mode, const uint8_t *rule, size_t rule_length,
                                             const uint8_t *log, size_t log_length,
                                             uint8_t *record, size_t record_length, uint8_t *work, size_t work_length,
                                             uint8_t *verdicts, size_t verdicts_length);

@@ -178,9 +178,10 @@ take_text() {
     fi || trouble "there is no room for temporary files"
 }
 
-# Holds a log against a rule with the proved check. Leaves log and report in the room, beside rule.rul, since the program
-# reads the file rule.rul where it runs. The report of a typed rule that is refused is that of a refused rule file.
-judge() { # RULE LOG
+# Holds a log against a rule with the proved check, which stops behind the first line that fails unless it is given
+# `full`. Leaves log and report in the room, beside rule.rul, since the program reads the file rule.rul where it runs.
+# The report of a typed rule that is refused is that of a refused rule file.
+judge() { # RULE LOG [full]
     { [ -r "$2" ] && [ ! -d "$2" ]; } || trouble "there is no log $2 that can be read"
     take_rule "$1" log_check
     [ -e "$room/given" ] || say "there is no rule file $1 that can be read, which counts as one of no bytes"
@@ -188,7 +189,7 @@ judge() { # RULE LOG
     if [ -n "$refused" ]; then
         echo "0 R$refused" >"$room/report" || trouble "there is no room for temporary files"
     else
-        (cd "$room" && "$bin/log_check" <log >report) || trouble "the check ended before its time"
+        (cd "$room" && "$bin/log_check" "${@:3}" <log >report) || trouble "the check ended before its time"
     fi
     case "$(tail -n 1 "$room/report")$(tail -c 1 "$room/report" | od -An -c)" in
         'T '*'\n' | '0 R'*'\n') ;;

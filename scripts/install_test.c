@@ -1,6 +1,6 @@
-/* Tries the installed library: NULL with length 0, buffers that are too short, answers of every kind, a rule that is typed and
- * written out, both layouts of a work area, and the stack that a call takes, on a thread that has no more than the header
- * promises. Prints the most stack taken. Exits with 1 at the first fault. */
+/* Tries the installed library: NULL with length 0, buffers that are too short, answers of every kind, a rule that is
+ * typed and written out, both layouts of a work area, both modes of reading a log, and the stack that a call takes, on
+ * a thread that has no more than the header promises. Prints the most stack taken. Exits with 1 at the first fault. */
 #define _GNU_SOURCE
 #include <pthread.h>
 #include <stdio.h>
@@ -15,6 +15,8 @@
 #define OF_TALLY tally, SCENE_LOG_TALLY_COUNTS
 #define SQUARE SCENE_LOG_SQUARE
 #define HALF SCENE_LOG_HALF
+#define FIRST SCENE_LOG_FIRST_FAILURE
+#define FULL SCENE_LOG_FULL
 #define GUARD_BYTES 65536
 #define UNUSED 0xa5
 
@@ -54,11 +56,11 @@ static void try_answers(void) {
     scene_log_answer answer;
     scene_log_verdict verdict;
     uint32_t number;
-    EXPECT(SCENE_LOG_VALUE(scene_log_report(SQUARE, OF(rule), NULL, 0, OF(work), OF(verdicts), OF(text))) == 12);
+    EXPECT(SCENE_LOG_VALUE(scene_log_report(SQUARE, FULL, OF(rule), NULL, 0, OF(work), OF(verdicts), OF(text))) == 12);
     EXPECT(memcmp(text, "T 0 0 0 0 0\n", 12) == 0);
-    EXPECT(SCENE_LOG_VALUE(scene_log_report(SQUARE, NULL, 0, NULL, 0, OF(work), OF(verdicts), OF(text))) == 5);
+    EXPECT(SCENE_LOG_VALUE(scene_log_report(SQUARE, FIRST, NULL, 0, NULL, 0, OF(work), OF(verdicts), OF(text))) == 5);
     EXPECT(memcmp(text, "0 R1\n", 5) == 0);
-    answer = scene_log_report(SQUARE, OF(rule), NULL, 0, OF(work), OF(verdicts), text, 2047);
+    answer = scene_log_report(SQUARE, FULL, OF(rule), NULL, 0, OF(work), OF(verdicts), text, 2047);
     EXPECT(SCENE_LOG_REFUSAL(answer) == SCENE_LOG_SHORT_BUFFER);
     EXPECT(scene_log_fnv1a(NULL, 0) == 2166136261u);
     EXPECT(SCENE_LOG_REFUSAL(scene_log_start(SQUARE, record, 2627, OF(work))) == SCENE_LOG_SHORT_BUFFER);
@@ -76,12 +78,12 @@ static void try_answers(void) {
     tally[SCENE_LOG_COUNT_LINES] = 0;
     verdict = scene_log_check_line_tallied(SQUARE, OF(rule), OF(record), tally, 5, OF(work), BYTES("B 1\n"));
     EXPECT(SCENE_LOG_FAILS(verdict) && tally[SCENE_LOG_COUNT_OPEN] == 1 && tally[SCENE_LOG_COUNT_FAILING] == 1);
-    answer = scene_log_check_log(SQUARE, OF(rule), BYTES("B 1\nE 1\nB 1\nB 1\n"), OF(work), OF(verdicts));
+    answer = scene_log_check_log(SQUARE, FULL, OF(rule), BYTES("B 1\nE 1\nB 1\nB 1\n"), OF(work), OF(verdicts));
     EXPECT(SCENE_LOG_LINES(answer) == 3 && SCENE_LOG_REFUSED_LINE(answer) == 4);
     EXPECT(SCENE_LOG_REFUSAL(answer) == SCENE_LOG_STILL_OPEN);
-    answer = scene_log_check_log(SQUARE, OF(rule), BYTES("B 1\nE 1\n"), OF(work), OF(verdicts));
+    answer = scene_log_check_log(SQUARE, FULL, OF(rule), BYTES("B 1\nE 1\n"), OF(work), OF(verdicts));
     EXPECT(SCENE_LOG_LINES(answer) == 2 && SCENE_LOG_REFUSED_LINE(answer) == 0 && SCENE_LOG_REFUSAL(answer) == 0);
-    answer = scene_log_check_log(SQUARE, NULL, 0, BYTES("B 1\n"), OF(work), OF(verdicts));
+    answer = scene_log_check_log(SQUARE, FIRST, NULL, 0, BYTES("B 1\n"), OF(work), OF(verdicts));
     EXPECT(SCENE_LOG_LINES(answer) == 0 && SCENE_LOG_REFUSED_LINE(answer) == 0 && SCENE_LOG_REFUSED(answer));
     EXPECT(SCENE_LOG_VALUE(scene_log_compose(SCENE_LOG_OVERLAPS, SCENE_LOG_OVERLAPS)) == (SCENE_LOG_BEFORE | SCENE_LOG_OVERLAPS));
     EXPECT(SCENE_LOG_REFUSAL(scene_log_compose(64, 0)) == SCENE_LOG_NO_SET);
@@ -134,9 +136,10 @@ static int same_pairs(const uint8_t *square, const uint8_t *half) {
 /* Reads the three runs and one line more in an area of this length, which is at least the layout's. */
 static scene_log_verdict read_in(uint32_t layout, uint8_t *area, size_t length) {
     scene_log_answer answer =
-        scene_log_check_log_record(layout, OF(rule), BYTES(three_runs), OF(record), area, length, OF(verdicts));
+        scene_log_check_log_record(layout, FULL, OF(rule), BYTES(three_runs), OF(record), area, length, OF(verdicts));
     EXPECT(SCENE_LOG_LINES(answer) == 5 && !SCENE_LOG_REFUSED(answer));
-    EXPECT(!SCENE_LOG_REFUSED(scene_log_report(layout, OF(rule), BYTES(three_runs), area, length, OF(verdicts), OF(text))));
+    answer = scene_log_report(layout, FULL, OF(rule), BYTES(three_runs), area, length, OF(verdicts), OF(text));
+    EXPECT(!SCENE_LOG_REFUSED(answer));
     return scene_log_check_line(layout, OF(rule), OF(record), area, length, BYTES("E 1\n"));
 }
 
@@ -163,11 +166,11 @@ static void try_lengths(void) {
 static void refuse_area(uint32_t layout, size_t length) {
     uint8_t *area = lend(length);
     scene_log_verdict verdict;
-    scene_log_answer answer = scene_log_check_log(layout, NULL, 0, BYTES("X"), area, length, OF(verdicts));
+    scene_log_answer answer = scene_log_check_log(layout, FULL, NULL, 0, BYTES("X"), area, length, OF(verdicts));
     EXPECT(SCENE_LOG_REFUSAL(answer) == SCENE_LOG_SHORT_BUFFER && SCENE_LOG_REFUSED_LINE(answer) == 0);
-    answer = scene_log_check_log_record(layout, NULL, 0, BYTES("X"), OF(record), area, length, OF(verdicts));
+    answer = scene_log_check_log_record(layout, FIRST, NULL, 0, BYTES("X"), OF(record), area, length, OF(verdicts));
     EXPECT(SCENE_LOG_REFUSAL(answer) == SCENE_LOG_SHORT_BUFFER && SCENE_LOG_LINES(answer) == 0);
-    answer = scene_log_report(layout, NULL, 0, BYTES("X"), area, length, OF(verdicts), OF(text));
+    answer = scene_log_report(layout, FULL, NULL, 0, BYTES("X"), area, length, OF(verdicts), OF(text));
     EXPECT(SCENE_LOG_REFUSAL(answer) == SCENE_LOG_SHORT_BUFFER);
     EXPECT(SCENE_LOG_REFUSAL(scene_log_start(layout, OF(record), area, length)) == SCENE_LOG_SHORT_BUFFER);
     verdict = scene_log_check_line(layout, NULL, 0, OF(record), area, length, BYTES("X"));
@@ -199,6 +202,52 @@ static void try_layouts(void) {
     EXPECT(SCENE_LOG_HOLDS(read_in(HALF, OF(work))));
     EXPECT(SCENE_LOG_REFUSAL(scene_log_check_line(SQUARE, OF(rule), OF(record), OF(work), BYTES("B 3\n"))) == SCENE_LOG_NO_RECORD);
     EXPECT(SCENE_LOG_HOLDS(scene_log_check_line(HALF, OF(rule), OF(record), OF(work), BYTES("B 3\n"))));
+}
+
+/* ---- the modes */
+
+/* No run is before another: line 4 is the first that fails, and line 6 is refused. */
+static const char fails_at_4[] = "B 1\nE 1\nB 2\nE 2\nB 3\nE 9\nB 4";
+
+/* Reads that log. All of what is left is that of so many lines, with this answer, verdicts and report. */
+static void read_mode(uint32_t layout, uint32_t mode, const char *printed, scene_log_answer expected) {
+    static uint8_t other_record[SCENE_LOG_RECORD_BYTES], other_work[SCENE_LOG_WORK_BYTES];
+    static const uint8_t all[] = {1, 1, 1, 0, 0};
+    static const uint8_t no_run_before[] = {'R', 'U', 'L', 1, 0, 0, 4, 5, 0, 1, 3, 1, 0, 3, 0, 1, 2, 2, 0};
+    uint32_t lines = SCENE_LOG_LINES(expected);
+    size_t length = layout == HALF ? SCENE_LOG_HALF_WORK_BYTES : SCENE_LOG_WORK_BYTES;
+    scene_log_answer answer;
+    memset(verdicts, UNUSED, sizeof verdicts);
+    answer = scene_log_check_log(layout, mode, OF(no_run_before), BYTES(fails_at_4), work, length, OF(verdicts));
+    EXPECT(answer.number == expected.number);
+    EXPECT(memcmp(verdicts, all, lines) == 0 && unused(verdicts + lines, sizeof verdicts - lines));
+    memset(verdicts, UNUSED, sizeof verdicts);
+    answer = scene_log_check_log_record(layout, mode, OF(no_run_before), BYTES(fails_at_4), OF(record),
+                                        work, length, OF(verdicts));
+    EXPECT(answer.number == expected.number);
+    EXPECT(memcmp(verdicts, all, lines) == 0 && unused(verdicts + lines, sizeof verdicts - lines));
+    /* These lines have four bytes each. With another rule they leave the same record and the same work area. */
+    answer = scene_log_check_log_record(layout, FULL, OF(with_slips), (const uint8_t *)fails_at_4, 4 * lines,
+                                        OF(other_record), other_work, length, OF(verdicts));
+    EXPECT(SCENE_LOG_LINES(answer) == lines && memcmp(record, other_record, sizeof record) == 0);
+    EXPECT(memcmp(work, other_work, length) == 0);
+    answer = scene_log_report(layout, mode, OF(no_run_before), BYTES(fails_at_4), work, length, OF(verdicts), OF(text));
+    EXPECT(SCENE_LOG_VALUE(answer) == strlen(printed) && memcmp(text, printed, strlen(printed)) == 0);
+}
+
+static void try_modes(void) {
+    static const uint32_t unknown[] = {2, 3, 255, 256, 257, 65537, 0x80000001u, 0xffffffffu};
+    static const char first[] = "1 H\n2 H\n3 H\n4 F\nT 4 2 2 0 1\n";
+    static const char full[] = "1 H\n2 H\n3 H\n4 F\n5 F\n6 R16\nT 5 3 2 1 2\n";
+    static const uint32_t layouts[] = {SQUARE, HALF};
+    static const scene_log_answer four = {4}, refused = {(SCENE_LOG_NEVER_BEGUN << 16) + 6};
+    size_t i, k;
+    for (i = 0; i < 2; i++) {
+        read_mode(layouts[i], FIRST, first, four);
+        read_mode(layouts[i], FULL, full, refused);
+        for (k = 0; k < sizeof unknown / sizeof *unknown; k++)
+            read_mode(layouts[i], unknown[k], first, four);
+    }
 }
 
 /* ---- the stack */
@@ -257,12 +306,17 @@ static void judge_logs(void) {
         const uint8_t *log = (const uint8_t *)logs[i / 2];
         size_t length = strlen(logs[i / 2]);
         uint32_t layout = i % 2 == 0 ? SQUARE : HALF;
-        scene_log_answer answer = scene_log_check_log_record(layout, deep, deep_length, log, length - 5,
-                                                             OF(record), OF(work), OF(verdicts));
+        scene_log_answer answer = scene_log_check_log(layout, FIRST, deep, deep_length, log, length,
+                                                      OF(work), OF(verdicts));
+        EXPECT(!SCENE_LOG_REFUSED(answer) && SCENE_LOG_LINES(answer) > 0);
+        answer = scene_log_check_log_record(layout, FULL, deep, deep_length, log, length - 5,
+                                            OF(record), OF(work), OF(verdicts));
         EXPECT(SCENE_LOG_LINES(answer) > 20);
         answer = scene_log_first_slip(deep, deep_length, OF(record), OF(slip));
         EXPECT(!SCENE_LOG_REFUSED(answer) || SCENE_LOG_REFUSAL(answer) == SCENE_LOG_RULE_NO_SLIPS);
-        answer = scene_log_report(layout, deep, deep_length, log, length, OF(work), OF(verdicts), OF(text));
+        answer = scene_log_report(layout, FULL, deep, deep_length, log, length, OF(work), OF(verdicts), OF(text));
+        EXPECT(!SCENE_LOG_REFUSED(answer));
+        answer = scene_log_report(layout, FIRST, deep, deep_length, log, length, OF(work), OF(verdicts), OF(text));
         EXPECT(!SCENE_LOG_REFUSED(answer));
     }
 }
@@ -328,6 +382,7 @@ int main(int count, char **arguments) {
     (void)arguments;
     try_answers();
     try_layouts();
+    try_modes();
     try_typed_rules();
     if (count == 1)
         try_stack();

@@ -23,12 +23,13 @@ use Rattle.tallies.specs.declared.Tally.{Tally}
 use Rattle.tallies.specs.declared.Tallied.{Tallied}
 use Rattle.output.specs.declared.Written.{Written}
 use Rattle.output.specs.declared.Written.the-variants as Written
+use Rattle.whole_log.specs.declared.Mode.the-variants.{FirstFailure, Full}
 use Rattle.report.specs.declared.Reported.{Reported}
 use Rattle.report.specs.declared.Reported.the-variants as Reported
 use Rattle.record_bytes.specs.declared.PackOutcome.{PackOutcome as Packed}
 use Rattle.record_bytes.specs.Form.{recordSize}
 use Rattle.record_bytes.specs.Calls.{packOf, Packs}
-use Rattle.answer_numbers.specs.Numbers.{layoutNamed, ByNamed, ByLayout, setNumber, relationNumber, outcomeNumber, endingNumber, logNumber, reportNumber, ReportFits, writtenNumber, WrittenFits}
+use Rattle.answer_numbers.specs.Numbers.{layoutNamed, modeNamed, NamesMode, ByNamed, ByLayout, setNumber, relationNumber, outcomeNumber, endingNumber, logNumber, reportNumber, ReportFits, writtenNumber, WrittenFits}
 use Rattle.answer_numbers.specs.InBytes.{asByte, recordIn, bytesAfter, lineNumbered, tallyIn, numbersAfter, talliedNumbered, bytesLeft, logKept}
 
 -- ── sets of relations ──
@@ -169,3 +170,13 @@ by-layout n says refuses lay e s = subst (λ (x : Option Layout). ByNamed x says
 pub no-layout : (n : ℕ) (says : Layout → Type 0) (refuses : Type 0) → 1 < n → refuses → ByLayout n says refuses
 unfolding ByLayout
 no-layout n says refuses h r = subst (λ (x : Option Layout). ByNamed x says refuses) (sym (none-named n h)) r
+
+-- ── modes ──
+not-full : FirstFailure ≡ Full → ⊥
+not-full e = absurd (let z : _≡_ {A = ℕ} 0 1 = cc in omega arith)
+
+pub full-named : (n : ℕ) → n ≡ 1 → NamesMode n Full
+full-named n e = record { answer = simp (eq-eqb n 1 e); full = (λ _. e, λ _. refl) }
+
+pub default-named : (n : ℕ) → (n ≡ 1 → ⊥) → NamesMode n FirstFailure
+default-named n d = record { answer = simp (ne-eqb n 1 d); full = (λ e. absurd (not-full e), λ e. absurd (d e)) }

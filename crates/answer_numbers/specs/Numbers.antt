@@ -4,6 +4,7 @@
 use Prim.Native.Nat.{ℕ, _+_, _*_, _/_, _%_, _≤_}
 use mathlib.Core.Path.{_≡_}
 use mathlib.Core.Bool.{cond}
+use mathlib.Core.Logic.{_↔_}
 use mathlib.Core.Option.{Option, none, some}
 use lib.Dec.{eqb}
 use Rattle.pairs.specs.declared.Layout.{Layout}
@@ -19,6 +20,8 @@ use Rattle.single.specs.declared.Outcome.{Outcome}
 use Rattle.single.specs.declared.Outcome.the-variants as Outcome
 use Rattle.output.specs.declared.Written.{Written}
 use Rattle.output.specs.declared.Written.the-variants as Written
+use Rattle.whole_log.specs.declared.Mode.{Mode}
+use Rattle.whole_log.specs.declared.Mode.the-variants.{FirstFailure, Full}
 use Rattle.report.specs.declared.Reported.{Reported}
 use Rattle.report.specs.declared.Reported.the-variants as Reported
 
@@ -46,6 +49,16 @@ ByNamed none says refuses = refuses
 -- A call that is lent a work area and told its layout by the number n. For a number that names none it refuses: no buffer is long enough.
 unfoldable pub ByLayout : ℕ → (Layout → Type 0) → Type 0 → Type 0
 ByLayout n says refuses = ByNamed (layoutNamed n) says refuses
+
+-- ── modes ──
+-- the mode that a number names: 1 the full one, and any other number the default
+abbrev pub modeNamed : ℕ → Mode
+modeNamed n = cond (eqb n 1) Full FirstFailure
+
+-- a number and the mode that it names: 0 stops at the first failure, 1 is the full one, and any other number counts as 0
+pub record NamesMode (n : ℕ) (m : Mode) : Type 0 where
+  pub answer : m ≡ modeNamed n
+  pub full : (m ≡ Full) ↔ (n ≡ 1)
 
 -- ── sets of relations ──
 -- "a set, 0 to 63"

@@ -1,12 +1,13 @@
 // Answers as numbers, for programs in other languages: what is an enum in the library is a number here.
 //
 // `keep_record`, `keep_tallied` and `keep_log` also put the record of the lines that are taken into bytes, and the tally into five
-// numbers; `tally_from` reads these, `as_byte` makes a byte of any number, and `layout_of` a layout of its number.
+// numbers; `tally_from` reads these, `as_byte` makes a byte of any number, `layout_of` a layout of its
+// number, and `mode_of` a mode.
 ghost use mathlib.Core.Path.{_≡_};
 ghost use mathlib.Core.Option.{some};
 ghost use Prim.Native.Nat.{_≤_};
 ghost use lib.ListN.{length};
-ghost use Rattle.answer_numbers.specs.Numbers.{layoutNamed, setNumber, relationNumber, logNumber, reportNumber, ReportFits, writtenNumber, WrittenFits};
+ghost use Rattle.answer_numbers.specs.Numbers.{layoutNamed, NamesMode, setNumber, relationNumber, logNumber, reportNumber, ReportFits, writtenNumber, WrittenFits};
 ghost use Rattle.answer_numbers.specs.InBytes.{asByte, lineNumbered, tallyFrom, tallyIn, talliedNumbered, logKept};
 use output::Written;
 use pairs::Layout;
@@ -19,6 +20,7 @@ use single::Checked;
 use single::Outcome;
 use tallies::Tallied;
 use tallies::Tally;
+use whole_log::Mode;
 
 // The largest number that a byte holds: it is no run and no set, and neither is any number above it.
 const LAST_BYTE: u32 = 255;
@@ -37,6 +39,16 @@ pub fn layout_of(n: u32) -> Layout
     ensures { λ x. ⌜ layoutNamed n ≡ some x ⌝ }
 {
     if n == 0 { Layout::Square } else { Layout::Half }
+}
+
+// The mode that a number names.
+pub fn mode_of(n: u32) -> Mode
+    ensures { λ x. ⌜ NamesMode n x ⌝ }
+{
+    if n == 1 {
+        return Mode::Full;
+    }
+    Mode::FirstFailure
 }
 
 // The number of a set, or the refusal.

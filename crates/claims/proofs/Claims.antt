@@ -14,6 +14,7 @@ use Rattle.claims.proofs.Verdicts.{demand-2}
 use Rattle.claims.proofs.Typed.{typed-rules}
 use Rattle.claims.proofs.Slips.{the-slips}
 use Rattle.claims.proofs.Layouts.{the-layouts}
+use Rattle.claims.proofs.Modes.{the-modes}
 use Rattle.claims.proofs.Worked as Worked
 
 is-composed : (a b : ℕ) → a < 64 → b < 64 → composedOf a b ≡ Composed.Set (composeOf a b)
@@ -29,7 +30,7 @@ demand-3 a b h k v c =
     }
 
 pub the-demands : Demands
-the-demands = record { first = demand-1; second = demand-2; third = demand-3; typed = typed-rules; slips = the-slips; layouts = the-layouts }
+the-demands = record { first = demand-1; second = demand-2; third = demand-3; typed = typed-rules; slips = the-slips; layouts = the-layouts; modes = the-modes }
 
 pub the-cases : Cases
 the-cases = Worked.the-cases

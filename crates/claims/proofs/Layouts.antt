@@ -38,8 +38,9 @@ use Rattle.tallies.specs.declared.Tally.{Tally}
 use Rattle.tallies.specs.declared.Tallied.{Tallied}
 use Rattle.tallies.specs.Tally.{counts?, refusingWith, talliedAfter, talliedState, talliedOf}
 use Rattle.whole_log.specs.Log.{notRead, linesFrom, logOf}
+use Rattle.whole_log.specs.Part.{readPart}
 use Rattle.whole_log.specs.Repeated.{Result}
-use Rattle.report.specs.Calls.{StartCall, LineCall, TalliedCall, LogCall, ReportCall, LongEnough}
+use Rattle.report.specs.Calls.{StartCall, LineCall, TalliedCall, LogCall, ReportCall, LongEnough, logPart, reportPart}
 use Rattle.report.specs.Report.{reportSize, reportOf}
 use Rattle.report.specs.Report as Report
 use Rattle.claims.specs.WhereMet.{Ruled, unknown}
@@ -138,13 +139,13 @@ module _ (lay lay′ : Layout) (w w′ file : List ℕ) where
       by-rule (RuleRead.Rule x) = lines-either x (linesOf log) noTrace out
       by-rule (RuleRead.Refused n) = refl
 
-log-same : (j k : LogCall) → j .file ≡ k .file → j .log ≡ k .log → j .verdicts ≡ k .verdicts → workSize (j .layout) ≤ length (j .work) → workSize (k .layout) ≤ length (k .work)
+log-same : (j k : LogCall) → j .mode ≡ k .mode → j .file ≡ k .file → j .log ≡ k .log → j .verdicts ≡ k .verdicts → workSize (j .layout) ≤ length (j .work) → workSize (k .layout) ≤ length (k .work)
     → (j .answer ≡ k .answer) × (j .verdicts′ ≡ k .verdicts′)
-log-same j k f l o h i =
+log-same j k m f l o h i =
     let e : _≡_ {A = LogRead × List ℕ} (j .answer, j .verdicts′) (k .answer, k .verdicts′) =
-    ap answered (j .checks .answer)
-    ∙ ((λ z. answered (logOf (j .layout) (f z) (l z) (j .work) (o z)))
-    ∙ (log-either (j .layout) (k .layout) (j .work) (k .work) (k .file) (k .log) (k .verdicts) h i ∙ sym (ap answered (k .checks .answer)))) in
+    ap answered (j .checks .checks .answer)
+    ∙ ((λ z. answered (logOf (j .layout) (f z) (readPart (m z) (f z) (l z)) (j .work) (o z)))
+    ∙ (log-either (j .layout) (k .layout) (j .work) (k .work) (k .file) (logPart k) (k .verdicts) h i ∙ sym (ap answered (k .checks .checks .answer)))) in
     (ap (λ (z : LogRead × List ℕ). z .0) e, ap (λ (z : LogRead × List ℕ). z .1) e)
 
 -- ── a report ──
@@ -159,13 +160,13 @@ report-either lay lay′ w w′ file log out text h i room big =
     simp (le-ltb (length w) (workSize lay) h, le-ltb (length w′) (workSize lay′) i, le-ltb (length out) maxLines room, le-ltb (length text) reportSize big)
     (refl, ap (λ (z : LogRead × List ℕ). z .1) (log-either lay lay′ w w′ file log out h i), refl)
 
-report-same : (j k : ReportCall) → j .file ≡ k .file → j .log ≡ k .log → j .verdicts ≡ k .verdicts → j .text ≡ k .text → LongEnough j → LongEnough k
+report-same : (j k : ReportCall) → j .mode ≡ k .mode → j .file ≡ k .file → j .log ≡ k .log → j .verdicts ≡ k .verdicts → j .text ≡ k .text → LongEnough j → LongEnough k
     → (j .answer ≡ k .answer) × (j .verdicts′ ≡ k .verdicts′) × (j .text′ ≡ k .text′)
-report-same j k f l o x a b =
+report-same j k m f l o x a b =
     let g : (z : Printed) (i : Printed) → z ≡ i → (z .0 ≡ i .0) × (z .2 ≡ i .2) × (z .3 ≡ i .3) = λ z i e. (ap (λ (y : Printed). y .0) e, ap (λ (y : Printed). y .2) e, ap (λ (y : Printed). y .3) e) in
-    let p = g _ _ (j .reports .answer ∙ (λ i. reportOf (j .layout) (f i) (l i) (j .work) (o i) (x i))) in
-    let q = g _ _ (k .reports .answer) in
-    let s = report-either (j .layout) (k .layout) (j .work) (k .work) (k .file) (k .log) (k .verdicts) (k .text) (a .work) (b .work) (b .verdicts) (b .text) in
+    let p = g _ _ (j .reports .reports .answer ∙ (λ i. reportOf (j .layout) (f i) (readPart (m i) (f i) (l i)) (j .work) (o i) (x i))) in
+    let q = g _ _ (k .reports .reports .answer) in
+    let s = report-either (j .layout) (k .layout) (j .work) (k .work) (k .file) (reportPart k) (k .verdicts) (k .text) (a .work) (b .work) (b .verdicts) (b .text) in
     (p .0 ∙ (s .0 ∙ sym (q .0)), p .1 ∙ (s .1 ∙ sym (q .1)), p .2 ∙ (s .2 ∙ sym (q .2)))
 
 -- ── the bytes ──

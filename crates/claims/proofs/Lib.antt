@@ -10,8 +10,10 @@ pub mod LinesRead
 pub mod TypedCases
 pub mod SlipCases
 pub mod IdCases
+pub mod ModeCases
 pub mod Worked
 pub mod Typed
 pub mod Slips
 pub mod Layouts
+pub mod Modes
 pub mod Claims

@@ -50,7 +50,7 @@ use Rattle.single.specs.Line.{refusing, lineAfter, advanceOf, stateOf, withRule
 use Rattle.tallies.specs.Tally.{refusingWith, counts?, talliedAfter, talliedState, talliedOf, ChecksTallied}
 use Rattle.reading.specs.Reading.{ended}
 use Rattle.whole_log.specs.Log.{notRead, linesFrom, logOf, LineAt, ChecksLog}
-use Rattle.report.specs.Calls.{StartCall, LineCall, TalliedCall, LogCall, ReportCall, LongEnough}
+use Rattle.report.specs.Calls.{StartCall, LineCall, TalliedCall, LogCall, ReportCall, LongEnough, logPart, reportPart}
 use Rattle.claims.specs.WhereMet.{MetRelate, relate-unknown, relate-unfinished, relate-same}
 use Rattle.claims.specs.Demand1.{Listed, Refuses, LogKept, unread, stopped, Demand1}
 use Rattle.accepted_logs.proofs.Numbers.{line-number}
@@ -204,11 +204,11 @@ module _ (k : TalliedCall) (c : ℕ) where
       (q .0, ap (λ (z : Tallied × List ℕ). z .0) (q .1), ap (λ (z : Tallied × List ℕ). z .1) (q .1))
 
 module _ (k : LogCall) (c n : ℕ) where
-  log-refused : k .answer .ending ≡ Ending.Refused c n → Listed c × LogRefused (k .layout) (k .file) (k .log) (k .work) (k .verdicts) c n (k .answer) (k .work′) (k .verdicts′)
+  log-refused : k .answer .ending ≡ Ending.Refused c n → Listed c × LogRefused (k .layout) (k .file) (logPart k) (k .work) (k .verdicts) c n (k .answer) (k .work′) (k .verdicts′)
   log-refused =
-      subst (λ (z : End). z .0 .ending ≡ Ending.Refused c n → Listed c × LogRefused (k .layout) (k .file) (k .log) (k .work) (k .verdicts) c n (z .0) (z .1) (z .2)) (sym (k .checks .answer)) (log-of-kept (k .layout) (k .file) (k .log) (k .work) (k .verdicts) c n)
+      subst (λ (z : End). z .0 .ending ≡ Ending.Refused c n → Listed c × LogRefused (k .layout) (k .file) (logPart k) (k .work) (k .verdicts) c n (z .0) (z .1) (z .2)) (sym (k .checks .checks .answer)) (log-of-kept (k .layout) (k .file) (logPart k) (k .work) (k .verdicts) c n)
 
-  kept-call : LogRefused (k .layout) (k .file) (k .log) (k .work) (k .verdicts) c n (k .answer) (k .work′) (k .verdicts′) → LogKept k c n
+  kept-call : LogRefused (k .layout) (k .file) (logPart k) (k .work) (k .verdicts) c n (k .answer) (k .work′) (k .verdicts′) → LogKept k c n
   kept-call (untouched a b d e) = unread a b d e
   kept-call (at-line f a b) = stopped f a b
 
@@ -235,13 +235,13 @@ demand-1 =
           record { listed = λ e. omega (arith, m .0 e .1); just-where = m; changes-nothing = start-kept (k .layout) (k .work) (k .answer) (k .work′) (k .starts) c };
       line = λ k c. record { listed = λ e. line-by k c e .0; just-where = line-met (k .layout) (k .file) (k .state) (k .work) (k .line) (k .answer) (k .work′) (k .checks) c; changes-nothing = λ e. (line-by k c e .1, line-by k c e .2) };
       tallied = λ k c. record { listed = λ e. tallied-by k c e .0; just-where = tallied-met (k .layout) (k .file) (k .state) (k .tally) (k .work) (k .line) (k .answer) (k .work′) (k .checks) c; changes-nothing = λ e. (tallied-by k c e .1, tallied-by k c e .2) };
-      log = λ k c n. record { listed = λ e. log-refused k c n e .0; just-where = log-met (k .layout) (k .file) (k .log) (k .work) (k .verdicts) (k .answer) (k .work′) (k .verdicts′) (k .checks) c n; changes-nothing = λ e. kept-call k c n (log-refused k c n e .1) };
+      log = λ k c n. record { listed = λ e. log-refused k c n e .0; just-where = log-met (k .layout) (k .file) (logPart k) (k .work) (k .verdicts) (k .answer) (k .work′) (k .verdicts′) (k .checks .checks) c n; changes-nothing = λ e. kept-call k c n (log-refused k c n e .1) };
       report = λ k c.
-          let m = report-met (k .layout) (k .work) (k .verdicts) (k .text) (k .file) (k .log) c (k .answer) (k .work′) (k .verdicts′) (k .text′) (k .reports) in
+          let m = report-met (k .layout) (k .work) (k .verdicts) (k .text) (k .file) (reportPart k) c (k .answer) (k .work′) (k .verdicts′) (k .text′) (k .reports .reports) in
           record {
             listed = λ e. omega (arith, m .0 e .1);
             just-where = (λ e. (λ l. m .0 e .0 (l .work, l .verdicts, l .text), m .0 e .1), λ p. m .1 (λ l. p .0 (record { work = l .0; verdicts = l .1; text = l .2 }), p .1));
-            changes-nothing = report-kept (k .layout) (k .work) (k .verdicts) (k .text) (k .file) (k .log) c (k .answer) (k .work′) (k .verdicts′) (k .text′) (k .reports);
+            changes-nothing = report-kept (k .layout) (k .work) (k .verdicts) (k .text) (k .file) (reportPart k) c (k .answer) (k .work′) (k .verdicts′) (k .text′) (k .reports .reports);
           };
       relate = λ r a b v h c. lent-nothing c (relate-met r a b v h c) (relate-listed r (a .0) (b .0) c);
       compose = λ a b v h c. lent-nothing c (compose-met a b v h c) (λ m. omega (arith, m .1));

@@ -4,10 +4,10 @@ use mathlib.Core.Path.{_≡_, refl, ap, sym, _∙_}
 use mathlib.Core.List.{List, [], _∷_, _++_}
 use native.Mathlib.Omega.{arith}
 use lib.ListN.{length, set}
-use Rattle.lines.specs.Log.{linesOf}
+use Rattle.lines.specs.Log.{linesOf, flat}
 use Rattle.trace.specs.Trace.{Trace, Answer, next, refused, noTrace, step, steps, Accepted}
 use Rattle.trace.proofs.Taken.{line-lines}
-use Rattle.trace.proofs.Grown.{no-bytes, flat}
+use Rattle.trace.proofs.Grown.{no-bytes}
 use Rattle.pairs.specs.declared.Layout.{Layout}
 use Rattle.pairs.specs.Pairs.{workOf}
 use Rattle.rules.specs.declared.Rule.{Rule}

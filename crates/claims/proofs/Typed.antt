@@ -11,7 +11,7 @@ use lib.Seq.{take-at}
 use borrow.Author.Tests.{lt-ltb, le-ltb}
 use Rattle.lists.proofs.Cases.{either-lt}
 use Rattle.lists.specs.Limits.{maxLines}
-use Rattle.lines.specs.Log.{linesOf}
+use Rattle.lines.specs.Log.{linesOf, flat}
 use Rattle.trace.specs.Trace.{Trace, Accepted, Answer, next, refused, noTrace, step}
 use Rattle.pairs.specs.declared.Layout.{Layout}
 use Rattle.pairs.specs.Layout.{workSize}
@@ -21,7 +21,10 @@ use Rattle.reading.specs.declared.Ending.the-variants as Ending
 use Rattle.reading.specs.Reading.{byAnswer, ended}
 use Rattle.single.specs.Line.{withRule}
 use Rattle.single.proofs.LineMeans.{verdict-says}
+use Rattle.whole_log.specs.declared.Mode.{Mode}
+use Rattle.whole_log.specs.declared.Mode.the-variants.{FirstFailure, Full}
 use Rattle.whole_log.specs.Log.{linesFrom, notRead, logOf}
+use Rattle.whole_log.specs.Part.{behind, toFailure, readPart}
 use Rattle.rules.specs.declared.Rule.{Rule}
 use Rattle.rules.specs.declared.RuleRead.{RuleRead}
 use Rattle.rules.specs.declared.RuleRead.the-variants as RuleRead
@@ -215,6 +218,26 @@ module _ (lay : Layout) (one two : List ℕ) (x y : Rule) (same : (u : Trace) �
       let by : List ℕ → RuleRead → LogRead × List ℕ × List ℕ = λ file r. cond short (notRead 20, w, out) (withRule r (λ n. (notRead n, w, out)) (λ z. linesFrom lay file z noTrace (linesOf log) w out)) in
       ap (by one) p ∙ (ap (λ (z : LogRead × List ℕ × List ℕ). cond short (notRead 20, w, out) z) (lines-same (linesOf log) noTrace out) ∙ sym (ap (by two) q))
 
+-- and the part that is read in a mode
+module _ (one two : List ℕ) (x y : Rule) (same : (u : Trace) → verdictOf u (formulaOf one x) ≡ verdictOf u (formulaOf two y)) where
+  behind-same : (ls : List (List ℕ)) (t : Trace) → toFailure one x t ls ≡ toFailure two y t ls
+  unfolding toFailure byAnswer
+  behind-same [] t = refl
+  behind-same (l ∷ ls) t = ap (λ (ms : List (List ℕ)). l ∷ ms) (by-step (step (next t) l) (behind-same ls))
+    where
+      by-step : (a : Answer) → ((u : Trace) → toFailure one x u ls ≡ toFailure two y u ls)
+          → byAnswer a (λ u. behind (verdictOf u (formulaOf one x)) (toFailure one x u ls)) (λ c. ls)
+          ≡ byAnswer a (λ u. behind (verdictOf u (formulaOf two y)) (toFailure two y u ls)) (λ c. ls)
+      by-step (next u) rest = λ i. behind (same u i) (rest u i)
+      by-step (refused c) rest = refl
+
+  part-by-verdicts : ruleOf one ≡ RuleRead.Rule x → ruleOf two ≡ RuleRead.Rule y → (mode : Mode) (log : List ℕ) → readPart mode one log ≡ readPart mode two log
+  unfolding readPart withRule
+  part-by-verdicts p q Full log = refl
+  part-by-verdicts p q FirstFailure log =
+      let by : List ℕ → RuleRead → List ℕ = λ file r. withRule r (λ n. log) (λ z. flat (toFailure file z noTrace (linesOf log))) in
+      ap (by one) p ∙ (ap flat (behind-same (linesOf log) noTrace) ∙ sym (ap (by two) q))
+
 same-verdicts : (one two : List ℕ) (x y : Rule) → ruleOf one ≡ RuleRead.Rule x → ruleOf two ≡ RuleRead.Rule y
     → ((t : Trace) (ρ : Binding) → Satisfies t ρ (formulaOf one x) ↔ Satisfies t ρ (formulaOf two y))
     → (u : Trace) → verdictOf u (formulaOf one x) ≡ verdictOf u (formulaOf two y)
@@ -251,13 +274,35 @@ module _ (k : WriteCall) where
         written-again = λ w z l. file-written w (take n (j .rule′)) (formulaSaid (r .tree)) text (r .rule) (ap (λ (u : Tree). ruleText (formulaSaid u)) same ∙ (a .again ∙ sym q)) z l;
       }
 
-  checks-same : (x : Rule) → ruleOf (k .file) ≡ RuleRead.Rule x → (text : List ℕ) → text ≡ ruleText (formulaOf (k .file) x) → (j : ReadCall) (m : ℕ) → j .text ≡ text → j .answer ≡ Length m
-      → (lay : Layout) (log w out : List ℕ) → logOf lay (take m (j .rule′)) log w out ≡ logOf lay (k .file) log w out
-  checks-same x p text q j m e a lay log w out =
+  -- the file that is read, and that its verdicts are those of the file that was written
+  record SameRule (x : Rule) (file : List ℕ) : Type 0 where
+    pub of : Rule
+    pub read : ruleOf file ≡ RuleRead.Rule of
+    pub same : (u : Trace) → verdictOf u (formulaOf file of) ≡ verdictOf u (formulaOf (k .file) x)
+
+  read-same : (x : Rule) → ruleOf (k .file) ≡ RuleRead.Rule x → (text : List ℕ) → text ≡ ruleText (formulaOf (k .file) x) → (j : ReadCall) (m : ℕ) → j .text ≡ text → j .answer ≡ Length m
+      → SameRule x (take m (j .rule′))
+  read-same x p text q j m e a =
       let g = again x p text q j e (long-enough j m a) in
       let r : RuleFile (take m (j .rule′)) (formulaSaid (g .read .tree)) = subst (λ (i : ℕ). RuleFile (take i (j .rule′)) (formulaSaid (g .read .tree))) (same-length (g .size) m (sym (g .taken) ∙ a)) (g .read .rule) in
       let y = rule-file-taken (take m (j .rule′)) (formulaSaid (g .read .tree)) r in
-      log-same lay (take m (j .rule′)) (k .file) (y .0) x (same-verdicts (take m (j .rule′)) (k .file) (y .0) x (y .1) p (λ t ρ. subst (λ (f : Formula). Satisfies t ρ f ↔ Satisfies t ρ (formulaOf (k .file) x)) (sym (y .2)) (g .verdict t ρ))) w log out (y .1) p
+      record {
+        of = y .0;
+        read = y .1;
+        same = same-verdicts (take m (j .rule′)) (k .file) (y .0) x (y .1) p (λ t ρ. subst (λ (f : Formula). Satisfies t ρ f ↔ Satisfies t ρ (formulaOf (k .file) x)) (sym (y .2)) (g .verdict t ρ));
+      }
+
+  checks-same : (x : Rule) → ruleOf (k .file) ≡ RuleRead.Rule x → (text : List ℕ) → text ≡ ruleText (formulaOf (k .file) x) → (j : ReadCall) (m : ℕ) → j .text ≡ text → j .answer ≡ Length m
+      → (lay : Layout) (log w out : List ℕ) → logOf lay (take m (j .rule′)) log w out ≡ logOf lay (k .file) log w out
+  checks-same x p text q j m e a lay log w out =
+      let y = read-same x p text q j m e a in
+      log-same lay (take m (j .rule′)) (k .file) (y .of) x (y .same) w log out (y .read) p
+
+  parts-same : (x : Rule) → ruleOf (k .file) ≡ RuleRead.Rule x → (text : List ℕ) → text ≡ ruleText (formulaOf (k .file) x) → (j : ReadCall) (m : ℕ) → j .text ≡ text → j .answer ≡ Length m
+      → (mode : Mode) (log : List ℕ) → readPart mode (take m (j .rule′)) log ≡ readPart mode (k .file) log
+  parts-same x p text q j m e a mode log =
+      let y = read-same x p text q j m e a in
+      part-by-verdicts (take m (j .rule′)) (k .file) (y .of) x (y .same) (y .read) p mode log
 
   writing : (n : ℕ) → k .answer ≡ Length n → Writing k n
   writing n e =
@@ -278,6 +323,7 @@ module _ (k : WriteCall) where
         rest = rest-kept bytes (k .text) (k .text′) (k .answer) (k .writes .left) n e size (omega arith);
         again = λ j q h. again x (w .read) (take n (k .text′)) t j q h;
         same-checks = λ j m q a. checks-same x (w .read) (take n (k .text′)) t j m q a;
+        same-parts = λ j m q a. parts-same x (w .read) (take n (k .text′)) t j m q a;
       }
 
 pub typed-rules : TypedRules

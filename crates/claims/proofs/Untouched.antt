@@ -41,7 +41,7 @@ use Rattle.report.specs.declared.Reported.{Reported}
 use Rattle.report.specs.declared.Reported.the-variants as Reported
 use Rattle.report.specs.Text.{reportText}
 use Rattle.report.specs.Report.{reportOf}
-use Rattle.report.specs.Calls.{StartCall, LineCall, TalliedCall, LogCall, ReportCall, Beyond, Lent, start-work, line-work, tallied-work, log-work, log-verdicts, report-work, report-verdicts, report-text}
+use Rattle.report.specs.Calls.{StartCall, LineCall, TalliedCall, LogCall, ReportCall, Beyond, Lent, start-work, line-work, tallied-work, log-work, log-verdicts, report-work, report-verdicts, report-text, logPart, reportPart}
 use Rattle.claims.proofs.Fronts.{handed, every}
 use Rattle.claims.proofs.WhereMet.{line-answer, tallied-answer}
 
@@ -151,7 +151,7 @@ module _ (lay : Layout) (file log w out : List ℕ) where
       (λ v. by-rule (ruleOf file) refl s v))
 
 log-call : (k : LogCall) → Beyond (workSize (k .layout)) (k .work) (k .work′) × Beyond (k .answer .state .lines .0) (k .verdicts) (k .verdicts′)
-log-call k = subst (Whole (k .layout) (k .file) (k .log) (k .work) (k .verdicts)) (sym (k .checks .answer)) (log-bytes (k .layout) (k .file) (k .log) (k .work) (k .verdicts))
+log-call k = subst (Whole (k .layout) (k .file) (logPart k) (k .work) (k .verdicts)) (sym (k .checks .checks .answer)) (log-bytes (k .layout) (k .file) (logPart k) (k .work) (k .verdicts))
 
 -- ── the report ──
 module _ (k : ReportCall) where
@@ -161,7 +161,7 @@ module _ (k : ReportCall) where
   -- all three are as they were, or those of the whole-log call with the text put at the front
   abbrev Kept : Reporting → Type 0
   Kept z =
-      Beyond (workSize (k .layout)) (k .work) (z .1) × Beyond (logOf (k .layout) (k .file) (k .log) (k .work) (k .verdicts) .0 .state .lines .0) (k .verdicts) (z .2)
+      Beyond (workSize (k .layout)) (k .work) (z .1) × Beyond (logOf (k .layout) (k .file) (reportPart k) (k .work) (k .verdicts) .0 .state .lines .0) (k .verdicts) (z .2)
       × ((n : ℕ) → z .0 ≡ Reported.Length n → n ≤ 2048 → Beyond n (k .text) (z .3))
 
   same-length : (n m : ℕ) → Reported.Length n ≡ Reported.Length m → n ≡ m
@@ -170,12 +170,12 @@ module _ (k : ReportCall) where
   no-length : {C : Type 0} (c n : ℕ) → Reported.Refused c ≡ Reported.Length n → C
   no-length c n e = absurd (let z : _≡_ {A = ℕ} 0 1 = cc in omega arith)
 
-  report-of : Kept (reportOf (k .layout) (k .file) (k .log) (k .work) (k .verdicts) (k .text))
+  report-of : Kept (reportOf (k .layout) (k .file) (reportPart k) (k .work) (k .verdicts) (k .text))
   unfolding reportOf
   report-of =
       either-bool (ltb (length (k .work)) (workSize (k .layout)) || (ltb (length (k .verdicts)) maxLines || ltb (length (k .text)) 2048))
       (λ s. simp s (same-bytes _ _, same-bytes _ _, λ n e h. no-length 20 n e))
-      (λ s. let b = log-bytes (k .layout) (k .file) (k .log) (k .work) (k .verdicts) in simp s (b .0, b .1, text-of s))
+      (λ s. let b = log-bytes (k .layout) (k .file) (reportPart k) (k .work) (k .verdicts) in simp s (b .0, b .1, text-of s))
     where
       room : ltb (length (k .work)) (workSize (k .layout)) || (ltb (length (k .verdicts)) maxLines || ltb (length (k .text)) 2048) ≡ false → 2048 ≤ length (k .text)
       room s =
@@ -190,15 +190,15 @@ module _ (k : ReportCall) where
           (λ h. h)
 
       text-of : ltb (length (k .work)) (workSize (k .layout)) || (ltb (length (k .verdicts)) maxLines || ltb (length (k .text)) 2048) ≡ false
-          → (n : ℕ) → Reported.Length (length (reportText (k .file) (k .log))) ≡ Reported.Length n → n ≤ 2048
-          → Beyond n (k .text) (reportText (k .file) (k .log) ++ drop (length (reportText (k .file) (k .log))) (k .text))
+          → (n : ℕ) → Reported.Length (length (reportText (k .file) (reportPart k))) ≡ Reported.Length n → n ≤ 2048
+          → Beyond n (k .text) (reportText (k .file) (reportPart k) ++ drop (length (reportText (k .file) (reportPart k))) (k .text))
       text-of s n e h =
-          let m : length (reportText (k .file) (k .log)) ≡ n = same-length _ n e in
-          subst (λ (i : ℕ). Beyond n (k .text) (reportText (k .file) (k .log) ++ drop i (k .text))) (sym m)
-          (put-bytes n (reportText (k .file) (k .log)) (k .text) m (omega (arith, h, room s)))
+          let m : length (reportText (k .file) (reportPart k)) ≡ n = same-length _ n e in
+          subst (λ (i : ℕ). Beyond n (k .text) (reportText (k .file) (reportPart k) ++ drop i (k .text))) (sym m)
+          (put-bytes n (reportText (k .file) (reportPart k)) (k .text) m (omega (arith, h, room s)))
 
   report-call : Kept (k .answer, k .work′, k .verdicts′, k .text′)
-  report-call = subst Kept (sym (k .reports .answer)) report-of
+  report-call = subst Kept (sym (k .reports .reports .answer)) report-of
 
 -- ── every lent buffer ──
 module _ (w w′ : List ℕ) (n : ℕ) where
@@ -218,4 +218,4 @@ module _ (w w′ : List ℕ) (n : ℕ) where
   untouched-bytes (log-verdicts k p q e) = named (k .verdicts) (k .verdicts′) (k .answer .state .lines .0) p q e (log-call k .1)
   untouched-bytes (report-work k p q e) = named (k .work) (k .work′) (workSize (k .layout)) p q e (report-call k .0)
   untouched-bytes (report-verdicts k p q e) = named (k .verdicts) (k .verdicts′) _ p q e (report-call k .1)
-  untouched-bytes (report-text k p q e) = named (k .text) (k .text′) n p q refl (report-call k .2 n e (k .reports .short n e))
+  untouched-bytes (report-text k p q e) = named (k .text) (k .text′) n p q refl (report-call k .2 n e (k .reports .reports .short n e))

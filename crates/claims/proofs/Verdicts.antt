@@ -48,7 +48,7 @@ use Rattle.whole_log.proofs.Verdicts.{verdicts-of-prefixes}
 use Rattle.whole_log.proofs.Cut.{first-bytes-decide}
 use Rattle.report.proofs.Cut.{first-bytes-decide-report}
 use Rattle.tallies.proofs.Failing.{tally-starts, tally-taken}
-use Rattle.report.specs.Calls.{StartCall, LineCall, TalliedCall, LogCall, ReportCall}
+use Rattle.report.specs.Calls.{StartCall, LineCall, TalliedCall, LogCall, ReportCall, logPart}
 use Rattle.claims.specs.WhereMet.{wrong, then}
 use Rattle.report.specs.Settled.{Notes, Settled, Judged, Reads}
 use Rattle.claims.specs.Demand2.{Demand2}
@@ -156,27 +156,27 @@ not-read : {C : Type 0} (c n : ℕ) → Ending.Refused c n ≡ Ending.Read → C
 not-read c n e = absurd (let z : _≡_ {A = ℕ} 0 1 = cc in omega arith)
 
 module _ (k : LogCall) (x : Rule) (rule : ruleOf (k .file) ≡ RuleRead.Rule x) (long : workSize (k .layout) ≤ length (k .work)) (room : maxLines ≤ length (k .verdicts)) where
-  line-verdicts : (n : ℕ) (part : List ℕ) (u : Trace) → n < length (linesOf (k .log)) → linesOf part ≡ take (suc n) (linesOf (k .log)) → Accepted part u
+  line-verdicts : (n : ℕ) (part : List ℕ) (u : Trace) → n < length (linesOf (logPart k)) → linesOf part ≡ take (suc n) (linesOf (logPart k)) → Accepted part u
       → (v : Verdict) × (getD (k .verdicts′) n 0 ≡ verdictByte v) × Says u (formulaOf (k .file) x) v
   unfolding read
   line-verdicts n part u h e a =
-      let b = k .checks .meaning x rule long room .verdicts n u h (ap (steps (next noTrace)) (sym e) ∙ a .leaves) in
+      let b = k .checks .checks .meaning x rule long room .verdicts n u h (ap (steps (next noTrace)) (sym e) ∙ a .leaves) in
       (verdictOf u (formulaOf (k .file) x), b .byte, b .verdict)
 
   log-reads : (g : Ending) → k .answer .ending ≡ g → Reads k x
   log-reads Ending.Read e =
-      let m = k .checks .meaning x rule long room .whole e in
+      let m = k .checks .checks .meaning x rule long room .whole e in
       record {
-        taken = k .log;
+        taken = logPart k;
         rest = [];
-        divides = sym (append-nil (linesOf (k .log)));
+        divides = sym (append-nil (linesOf (logPart k)));
         whole = λ _. refl;
         stops = λ c n q. not-read c n (sym q ∙ e);
         settled = left-settled (k .layout) _ (m .trace) _ _ (over (k .layout) _ (m .trace) _ (k .work) _ (m .accepted) (m .state) (m .pairs));
         verdicts = line-verdicts;
       }
   log-reads (Ending.Refused c n) e =
-      let m = k .checks .meaning x rule long room .stops c n e in
+      let m = k .checks .checks .meaning x rule long room .stops c n e in
       record {
         taken = m .first .before;
         rest = m .first .line ∷ m .first .after;
@@ -198,7 +198,7 @@ demand-2 =
       relate = λ r a b v h log t k e. h .known log t k e .relation;
       counts = λ file x log t a. counts-says t _ .0 (tally-taken file x log t a);
       log = λ k x e long room. log-reads k x e long room (k .answer .ending) refl;
-      report = λ k n e. (λ x p. k .reports .meaning n x e p, λ c p. k .reports .unruled n c e p);
+      report = λ k n e. (λ x p. k .reports .reports .meaning n x e p, λ c p. k .reports .reports .unruled n c e p);
       repeats = log-is-repeated-line;
       prefixes = λ lay file w out log part n e h u a. verdicts-of-prefixes lay file w out log part n e h u a;
       first-bytes = first-bytes-decide;

@@ -20,7 +20,8 @@ use Rattle.logic.specs.Model.{eval}
 use Rattle.logic.specs.Verdict.{verdictOf}
 use Rattle.reading.specs.declared.Ending.the-variants as Ending
 use Rattle.reading.specs.Reading.{byAnswer, ended}
-use Rattle.whole_log.specs.Log.{linesFrom}
+use Rattle.whole_log.specs.Log.{linesFrom, logOf}
+use Rattle.whole_log.proofs.Part.{part-full}
 use Rattle.whole_log.specs.Repeated.{Result}
 use Rattle.trace.specs.Orderly.{finishedRuns}
 use Rattle.tallies.specs.Tally.{tallyOf, failingFrom, tallyAfter}
@@ -31,6 +32,7 @@ use Rattle.claims.proofs.LinesRead.{reads, byte-of}
 use Rattle.claims.proofs.TypedCases.{typed-cases}
 use Rattle.claims.proofs.SlipCases.{slip-cases}
 use Rattle.claims.proofs.IdCases.{id-cases}
+use Rattle.claims.proofs.ModeCases.{mode-cases}
 
 -- ── P1 ──
 p1-lines : (lay : Layout) (w out : List ℕ) → linesFrom lay p1File p1Rule noTrace (linesOf p1Log) w out ≡ (ended p1Trace Ending.Read, workOf lay p1Trace w, set (set (set (set out 0 1) 1 1) 2 1) 3 0)
@@ -78,7 +80,9 @@ p10-case =
     record {
       rule = p10-taken;
       formula = p10-formula;
-      verdicts = λ lay w out h. ap (λ (z : Result). z .2) (reads lay p10File p10Rule p10-taken (bytes "B 1\nE 1\n") w out h) ∙ p10-lines lay w out;
+      verdicts = λ lay w out h.
+          ap (λ (log : List ℕ). logOf lay p10File log w out .2) (part-full p10File (bytes "B 1\nE 1\n"))
+          ∙ (ap (λ (z : Result). z .2) (reads lay p10File p10Rule p10-taken (bytes "B 1\nE 1\n") w out h) ∙ p10-lines lay w out);
     }
 
 the-numbers : Numbers
@@ -89,4 +93,4 @@ layout-cases : LayoutCases
 layout-cases = record { of-0-1 = (refl, refl); of-0-2 = (refl, refl); of-1-2 = (refl, refl); of-0-127 = (refl, refl); of-126-127 = (refl, refl) }
 
 pub the-cases : Cases
-the-cases = record { p1 = p1-case; p2-to-p8 = examples; p9 = p9-case; p10 = p10-case; numbers = the-numbers; typed = typed-cases; slips = slip-cases; ids = id-cases; layouts = layout-cases }
+the-cases = record { p1 = p1-case; p2-to-p8 = examples; p9 = p9-case; p10 = p10-case; numbers = the-numbers; typed = typed-cases; slips = slip-cases; ids = id-cases; layouts = layout-cases; modes = mode-cases }

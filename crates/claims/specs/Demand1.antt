@@ -30,7 +30,7 @@ use Rattle.single.specs.Line.{refusing}
 use Rattle.tallies.specs.Tally.{refusingWith}
 use Rattle.whole_log.specs.Log.{notRead, logOf, LineAt}
 use Rattle.report.specs.declared.Reported.the-variants as Reported
-use Rattle.report.specs.Calls.{StartCall, LineCall, TalliedCall, LogCall, ReportCall, LongEnough, Lent, Beyond}
+use Rattle.report.specs.Calls.{StartCall, LineCall, TalliedCall, LogCall, logPart, ReportCall, LongEnough, Lent, Beyond}
 use Rattle.grammar.specs.MetBytes.{MetBytes}
 use Rattle.grammar.specs.MetRule.{MetRule}
 use Rattle.accepted_logs.specs.MetAfter.{MetAfter}
@@ -49,11 +49,11 @@ pub record Refuses (c : ℕ) (answered met kept : Type 0) : Type 0 where
   pub changes-nothing : answered → kept
 
 -- A whole log that is refused with c at line n: for a buffer or the rule, before any line is read, and nothing is
--- touched; or at the first line that is refused, and the record, the work area and the verdict bytes are those that
--- the call leaves for the lines before.
+-- touched; or at the first line that is refused of the part that is read (`Modes`), and the record, the work area and
+-- the verdict bytes are those that the call leaves for the lines before.
 pub data LogKept (k : LogCall) (c n : ℕ) : Type 0 where
   unread : n ≡ 0 → k .answer ≡ notRead c → k .work′ ≡ k .work → k .verdicts′ ≡ k .verdicts → LogKept k c n
-  stopped : (f : LineAt (k .log) n) → k .answer ≡ ended (f .trace) (Ending.Refused c n)
+  stopped : (f : LineAt (logPart k) n) → k .answer ≡ ended (f .trace) (Ending.Refused c n)
       → logOf (k .layout) (k .file) (f .before) (k .work) (k .verdicts)
       ≡ (ended (f .trace) Ending.Read, k .work′, k .verdicts′)
       → LogKept k c n
@@ -72,7 +72,7 @@ pub record Demand1 : Type 0 where
       ((k .answer ≡ refusingWith (k .state) (k .tally) c) × (k .work′ ≡ k .work))
   pub log : (k : LogCall) (c n : ℕ)
       → Refuses c (k .answer .ending ≡ Ending.Refused c n)
-      (MetLog (k .layout) (k .file) (k .log) (k .work) (k .verdicts) c n) (LogKept k c n)
+      (MetLog (k .layout) (k .file) (logPart k) (k .work) (k .verdicts) c n) (LogKept k c n)
   pub report : (k : ReportCall) (c : ℕ)
       → Refuses c (k .answer ≡ Reported.Refused c) ((LongEnough k → ⊥) × (c ≡ 20))
       ((k .work′ ≡ k .work) × (k .verdicts′ ≡ k .verdicts) × (k .text′ ≡ k .text))

@@ -34,7 +34,7 @@ use Rattle.text_pieces.specs.Pieces.{refusedText}
 use Rattle.report.specs.Text.{reportText}
 use Rattle.report.specs.Report.{TextMeans}
 use Rattle.report.specs.Settled.{Settled, Judged, Reads}
-use Rattle.report.specs.Calls.{StartCall, LineCall, TalliedCall, LogCall, ReportCall}
+use Rattle.report.specs.Calls.{StartCall, LineCall, TalliedCall, LogCall, ReportCall, reportPart}
 use Rattle.claims.specs.WhereMet.{Counts}
 use Rattle.accepted_logs.specs.Spoken.{Spoken, Accepting}
 
@@ -69,11 +69,11 @@ pub record Demand2 : Type 0 where
   -- "answers their one relation by its number"
   pub relate : (r : Record) (a b : RunNo) (v : Answer.Related) → Relating r a b v → (log : List ℕ) (t : Trace)
       → Accepted log t → r ≡ recordOf t → (n : ℕ) → (v ≡ RelateAnswer.Relation n) ↔ RelatedAs t (a .0) (b .0) n
-  -- the lines of a whole log, and the lines of its report
+  -- the lines of the part of a whole log that is read (`Modes` says which), and the lines of its report
   pub log : (k : LogCall) (x : Rule) → ruleOf (k .file) ≡ RuleRead.Rule x → workSize (k .layout) ≤ length (k .work)
       → maxLines ≤ length (k .verdicts) → Reads k x
   pub report : (k : ReportCall) (n : ℕ) → k .answer ≡ Reported.Length n
-      → ((x : Rule) → ruleOf (k .file) ≡ RuleRead.Rule x → TextMeans (k .file) x (k .log) (take n (k .text′)))
+      → ((x : Rule) → ruleOf (k .file) ≡ RuleRead.Rule x → TextMeans (k .file) x (reportPart k) (take n (k .text′)))
       × ((c : ℕ) → ruleOf (k .file) ≡ RuleRead.Refused c → take n (k .text′) ≡ refusedText 0 c)
   -- the whole-log call is the repeated single-line call, its verdicts are those of prefixes, and first bytes decide
   pub repeats : (lay : Layout) (file log w out : List ℕ) (x : Rule) → ruleOf file ≡ RuleRead.Rule x

@@ -53,12 +53,12 @@ pub record SameAnswers : Type 0 where
       → workSize (j .layout) ≤ length (j .work) → workSize (k .layout) ≤ length (k .work) → (h : Option Trace)
       → HandedBy (j .layout) (j .state) (j .work) h → HandedBy (k .layout) (k .state) (k .work) h
       → j .answer ≡ k .answer
-  -- any log: the record, the refusal with its line, and the verdict bytes
-  pub log : (j k : LogCall) → j .file ≡ k .file → j .log ≡ k .log → j .verdicts ≡ k .verdicts
+  -- any log, in either mode: the record, the refusal with its line, and the verdict bytes
+  pub log : (j k : LogCall) → j .mode ≡ k .mode → j .file ≡ k .file → j .log ≡ k .log → j .verdicts ≡ k .verdicts
       → workSize (j .layout) ≤ length (j .work) → workSize (k .layout) ≤ length (k .work)
       → (j .answer ≡ k .answer) × (j .verdicts′ ≡ k .verdicts′)
-  pub report : (j k : ReportCall) → j .file ≡ k .file → j .log ≡ k .log → j .verdicts ≡ k .verdicts → j .text ≡ k .text
-      → LongEnough j → LongEnough k
+  pub report : (j k : ReportCall) → j .mode ≡ k .mode → j .file ≡ k .file → j .log ≡ k .log → j .verdicts ≡ k .verdicts
+      → j .text ≡ k .text → LongEnough j → LongEnough k
       → (j .answer ≡ k .answer) × (j .verdicts′ ≡ k .verdicts′) × (j .text′ ≡ k .text′)
 
 -- ── an area of the other layout ──

@@ -4,6 +4,7 @@ pub mod Demand2
 pub mod Typed
 pub mod Slips
 pub mod Layouts
+pub mod Modes
 pub mod Demands
 pub mod Lessons
 pub mod TypedCases

@@ -27,7 +27,9 @@ use Rattle.output.specs.declared.Written.{Written}
 use Rattle.output.specs.declared.Written.the-variants.{Length, Refused}
 use Rattle.typed_file.specs.Answer.{ReadsText}
 use Rattle.rule_text.specs.Text.{WritesText}
+use Rattle.whole_log.specs.declared.Mode.{Mode}
 use Rattle.whole_log.specs.Log.{logOf}
+use Rattle.whole_log.specs.Part.{readPart}
 use Rattle.report.specs.Calls.{Beyond}
 use Rattle.claims.specs.Demand1.{Refuses}
 
@@ -102,6 +104,9 @@ pub record Writing (k : WriteCall) (n : ℕ) : Type 0 where
   -- "a rule of equal verdict on every log": with both files the whole-log call answers and leaves the same
   pub same-checks : (j : ReadCall) (m : ℕ) → j .text ≡ take n (k .text′) → j .answer ≡ Length m
       → (lay : Layout) (log w out : List ℕ) → logOf lay (take m (j .rule′)) log w out ≡ logOf lay (k .file) log w out
+  -- and in each mode it reads the same part
+  pub same-parts : (j : ReadCall) (m : ℕ) → j .text ≡ take n (k .text′) → j .answer ≡ Length m
+      → (mode : Mode) (log : List ℕ) → readPart mode (take m (j .rule′)) log ≡ readPart mode (k .file) log
 
 pub record TypedRules : Type 0 where
   -- where each call is refused, and that it then leaves its buffer as it was

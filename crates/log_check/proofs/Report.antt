@@ -6,12 +6,14 @@ use native.Mathlib.Omega.{arith}
 use lib.ListN.{length, take, drop, length-append}
 use lib.Seq.{length-take-le, take-append-seam}
 use borrow.Author.Tests.{le-ltb}
+use Rattle.whole_log.specs.declared.Mode.{Mode}
 use Rattle.whole_log.specs.Log.{logOf}
+use Rattle.whole_log.specs.Part.{readPart}
 use Rattle.report.specs.declared.Reported.{Reported}
 use Rattle.report.specs.declared.Reported.the-variants.{Length, Refused}
 use Rattle.report.specs.Text.{reportText}
-use Rattle.report.specs.Report.{Result, reportOf, Reports}
-use Rattle.report.proofs.Cut.{first-bytes-decide-report}
+use Rattle.report.specs.Report.{Result, reportOf, ReportsPart}
+use Rattle.report.proofs.Cut.{first-bytes-decide-part-report}
 use Rattle.log_check.specs.Printed.{Printed}
 use Rattle.pairs.specs.declared.Layout.the-variants.{Half}
 use Rattle.pairs.specs.Layout.{workSize}
@@ -21,19 +23,22 @@ abbrev lengthOf : Reported → ℕ
 lengthOf (Length n) = n
 lengthOf (Refused c) = 0
 
-module _ (file log w out text : List ℕ) (long : workSize Half ≤ length w) (room : 256 ≤ length out) (space : 2048 ≤ length text) where
-  abbrev R : List ℕ
-  R = reportText file log
+module _ (mode : Mode) (file log w out text : List ℕ) (long : workSize Half ≤ length w) (room : 256 ≤ length out) (space : 2048 ≤ length text) where
+  abbrev part : List ℕ
+  part = readPart mode file log
 
-  written : reportOf Half file log w out text ≡ (Length (length R), logOf Half file log w out .1, logOf Half file log w out .2, R ++ drop (length R) text)
+  abbrev R : List ℕ
+  R = reportText file part
+
+  written : reportOf Half file part w out text ≡ (Length (length R), logOf Half file part w out .1, logOf Half file part w out .2, R ++ drop (length R) text)
   unfolding reportOf
   written = simp (le-ltb (length w) (workSize Half) long, le-ltb (length out) 256 room, le-ltb (length text) 2048 space)
 
-  module _ (a : Reported) (w′ out′ text′ : List ℕ) (r : Reports Half file log w out text a w′ out′ text′) where
-    all : _≡_ {A = Result} (a, w′, out′, text′) (Length (length R), logOf Half file log w out .1, logOf Half file log w out .2, R ++ drop (length R) text)
-    all = r .answer ∙ written
+  module _ (a : Reported) (w′ out′ text′ : List ℕ) (r : ReportsPart Half mode file log w out text a w′ out′ text′) where
+    all : _≡_ {A = Result} (a, w′, out′, text′) (Length (length R), logOf Half file part w out .1, logOf Half file part w out .2, R ++ drop (length R) text)
+    all = r .reports .answer ∙ written
 
-    pub prints : (n : ℕ) → a ≡ Length n → Printed file log text′ n
+    pub prints : (n : ℕ) → a ≡ Length n → Printed mode file log text′ n
     prints n e =
         let k : n ≡ length R = sym (ap lengthOf e) ∙ ap (λ (z : Result). lengthOf (z .0)) all in
         let t : text′ ≡ R ++ drop (length R) text = ap (λ (z : Result). z .3) all in
@@ -42,10 +47,10 @@ module _ (file log w out text : List ℕ) (long : workSize Half ≤ length w) (r
         record {
           counts = (h, sym (length-take-le n text′ h));
           bytes = b;
-          whole = λ f i p q. b ∙ (ap₂ reportText p q ∙ first-bytes-decide-report f i);
+          whole = λ f i p q. b ∙ (ap₂ (λ (u v : List ℕ). reportText u (readPart mode u v)) p q ∙ first-bytes-decide-part-report mode f i);
         }
 
-    pub not-refused : (c : ℕ) → a ≡ Refused c → (n : ℕ) → Printed file log text′ n
+    pub not-refused : (c : ℕ) → a ≡ Refused c → (n : ℕ) → Printed mode file log text′ n
     not-refused c e n =
         let q : Refused c ≡ Length (length R) = sym e ∙ ap (λ (z : Result). z .0) all in
         absurd (let z : _≡_ {A = ℕ} 0 1 = cc in omega arith)

@@ -13,4 +13,5 @@ pub use tallies::Tallied;
 pub use tallies::Tally;
 pub use tallies::check_line_tallied;
 pub use tallies::tally_of;
+pub use whole_log::Mode;
 pub use whole_log::check_log;

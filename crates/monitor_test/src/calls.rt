@@ -2,6 +2,7 @@
 use super::answers;
 use super::handed;
 use lines::Next;
+use monitor::Mode;
 use monitor::Tallied;
 use pairs::Layout;
 
@@ -101,27 +102,27 @@ fn each_line(l: Layout, s: Tallied, kind: u8, file: &[u8], work: &mut [u8], log:
 }
 
 // A whole log: the answer is written.
-fn whole_in(l: Layout, file: &[u8], log: &[u8], work: &mut [u8], bytes: &mut [u8]) {
-    let a = monitor::check_log(l, file, log, work, bytes);
+fn whole_in(l: Layout, m: Mode, file: &[u8], log: &[u8], work: &mut [u8], bytes: &mut [u8]) {
+    let a = monitor::check_log(l, m, file, log, work, bytes);
     answers::log(a, work, bytes);
 }
 
 // The same in a work area of w bytes and a verdict buffer of v bytes.
-fn whole(l: Layout, file: &[u8], log: &[u8], w: usize, v: usize) {
+fn whole(l: Layout, m: Mode, file: &[u8], log: &[u8], w: usize, v: usize) {
     let mut area = [7u8; 16400];
     let mut bytes = [9u8; 260];
     if w <= 16400 {
         if v <= 260 {
-            whole_in(l, file, log, &mut area[0..w], &mut bytes[0..v]);
+            whole_in(l, m, file, log, &mut area[0..w], &mut bytes[0..v]);
         }
     }
 }
 
-// A whole log: the record and the work area are handed on.
+// A whole log, in the full mode: the record and the work area are handed on.
 fn kept(l: Layout, s: Tallied, file: &[u8], log: &[u8], work: &mut [u8]) -> Tallied {
     let mut bytes = [9u8; 260];
     test_text::fill(work, 7);
-    let a = monitor::check_log(l, file, log, work, &mut bytes);
+    let a = monitor::check_log(l, Mode::Full, file, log, work, &mut bytes);
     let mut q = s;
     let r = a.state;
     q.state = r;
@@ -142,6 +143,7 @@ fn call_of(kind: u8) -> u8 {
 
 fn called(
     l: Layout,
+    m: Mode,
     s: Tallied,
     kind: u8,
     log: &[u8],
@@ -162,13 +164,14 @@ fn called(
     if k == 5 {
         return kept(l, s, file, log, work);
     }
-    whole(l, file, log, work.len(), v);
+    whole(l, m, file, log, work.len(), v);
     s
 }
 
 // What a case leaves.
 pub fn case(
     l: Layout,
+    m: Mode,
     s: Tallied,
     kind: u8,
     text: &[u8],
@@ -185,5 +188,5 @@ pub fn case(
     }
     let mut log = [0u8; 2048];
     let n = test_cases::bytes(text, &mut log);
-    called(l, s, kind, &log[..n], file, work, v)
+    called(l, m, s, kind, &log[..n], file, work, v)
 }

@@ -1,13 +1,15 @@
 // What the calls are handed, as the cases before say: a rule, a work area and a verdict buffer of some sizes, a record and a tally.
+use monitor::Mode;
 use monitor::Outcome;
 use monitor::Tallied;
 use monitor::Tally;
 use pairs::Layout;
 use trace::Record;
 
-// The layout, and how many bytes of the rule file, the work area and the verdict buffer are in use.
+// The layout, the mode, and how many bytes of the rule file, the work area and the verdict buffer are in use.
 pub struct Sizes {
     pub layout: usize,
+    pub mode: usize,
     pub rule: usize,
     pub work: usize,
     pub verdicts: usize,
@@ -24,7 +26,16 @@ pub fn layout(n: usize) -> Layout {
     if n == 0 { Layout::Square } else { Layout::Half }
 }
 
-// The sizes after a case that gives the layout, the rule, the verdict buffer or the work area, or changes a byte of it.
+// The mode of a number.
+pub fn mode(n: usize) -> Mode {
+    if n == 1 {
+        Mode::Full
+    } else {
+        Mode::FirstFailure
+    }
+}
+
+// The sizes after a case that gives the layout, the mode, the rule, the verdict buffer or the work area, or changes a byte of it.
 pub fn sized(z: Sizes, kind: u8, text: &[u8], file: &mut [u8], area: &mut [u8]) -> Sizes {
     let mut q = z;
     if kind == b'r' {
@@ -50,6 +61,10 @@ pub fn sized(z: Sizes, kind: u8, text: &[u8], file: &mut [u8], area: &mut [u8]) 
     }
     if kind == b'y' {
         q.layout = n;
+        return q;
+    }
+    if kind == b'm' {
+        q.mode = n;
     }
     q
 }
@@ -75,6 +90,7 @@ pub fn nothing() -> State {
     };
     let sizes = Sizes {
         layout: 0,
+        mode: 0,
         rule: 0,
         work: 16400,
         verdicts: 260,

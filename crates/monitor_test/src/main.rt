@@ -4,6 +4,7 @@
 // A case is a kind and a text (`test_cases`). What the calls are handed:
 //   r BYTES      the rule
 //   y N          the layout: 0 square, 1 half. It is square at first
+//   m N          the mode of `w`: 0 up to the first failure, 1 full. It is 0 at first
 //   a N B        the work area: N bytes B, at most 16400
 //   v N          the length of the verdict buffer, at most 260
 //   s            a record that is started in the work area
@@ -35,9 +36,19 @@ fn case_in(s: Tallied, kind: u8, text: &[u8], z: Sizes, file: &[u8], area: &mut 
     let n = z.rule;
     let w = z.work;
     let l = handed::layout(z.layout);
+    let m = handed::mode(z.mode);
     if n <= file.len() {
         if w <= area.len() {
-            return calls::case(l, s, kind, text, &file[0..n], &mut area[0..w], z.verdicts);
+            return calls::case(
+                l,
+                m,
+                s,
+                kind,
+                text,
+                &file[0..n],
+                &mut area[0..w],
+                z.verdicts,
+            );
         }
     }
     s

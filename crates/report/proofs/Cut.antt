@@ -20,11 +20,14 @@ use Rattle.rules.specs.Rules.{ruleOf}
 use Rattle.rules.proofs.Rules.{rule-taken}
 use Rattle.rules.proofs.Cut.{first-bytes-decide-rule}
 use Rattle.reading.specs.declared.Ending.{Ending}
+use Rattle.whole_log.specs.declared.Mode.{Mode}
 use Rattle.whole_log.specs.Log.{logOf}
+use Rattle.whole_log.specs.Part.{readPart}
 use Rattle.tallies.specs.Tally.{tallyOf}
 use Rattle.whole_log.specs.Repeated.{Result}
 use Rattle.single.proofs.LineCall.{with-refused}
-use Rattle.whole_log.proofs.Cut.{first-bytes-decide}
+use Rattle.whole_log.proofs.Part.{part-unruled}
+use Rattle.whole_log.proofs.Cut.{first-bytes-decide, part-cut}
 use Rattle.text_pieces.specs.Pieces.{refusedText}
 use Rattle.report.specs.Text.{reportText}
 use Rattle.report.specs.RecordText.{recordText}
@@ -87,3 +90,21 @@ rule-cut file log =
 -- THE LAW: nothing past the first 600 bytes of a rule file and the first 8,192 of a log changes the report.
 pub first-bytes-decide-report : (file log : List ℕ) → reportText (take 600 file) (take 8192 log) ≡ reportText file log
 first-bytes-decide-report file log = rule-cut file (take 8192 log) ∙ log-cut file log
+
+-- ── the part that is read ──
+rule-part-cut : (mode : Mode) (file log : List ℕ) → readPart mode (take 600 file) log ≡ readPart mode file log
+rule-part-cut mode file log =
+    either-lt (length file) 600
+    (λ h. ap (λ (f : List ℕ). readPart mode f log) (take-all 600 file (omega arith)))
+    (λ h. go h (ruleOf file) refl)
+  where
+    go : 600 ≤ length file → (q : RuleRead) → ruleOf file ≡ q → readPart mode (take 600 file) log ≡ readPart mode file log
+    go h (RuleRead.Rule x) e = absurd (omega (arith, rule-taken file x e .size))
+    go h (RuleRead.Refused c) e = part-unruled mode (take 600 file) log c (first-bytes-decide-rule file ∙ e) ∙ sym (part-unruled mode file log c e)
+
+-- the same of what is read in a mode
+pub first-bytes-decide-part-report : (mode : Mode) (file log : List ℕ)
+    → reportText (take 600 file) (readPart mode (take 600 file) (take 8192 log)) ≡ reportText file (readPart mode file log)
+first-bytes-decide-part-report mode file log =
+    ap (reportText (take 600 file)) (rule-part-cut mode file (take 8192 log) ∙ part-cut mode file log)
+    ∙ first-bytes-decide-report file (readPart mode file log)

@@ -19,15 +19,19 @@ use Rattle.rules.specs.declared.RuleRead.the-variants as RuleRead
 use Rattle.rules.specs.Rules.{ruleOf}
 use Rattle.rules.proofs.Rules.{reads-rule}
 use Rattle.reading.specs.declared.LogRead.{LogRead}
+use Rattle.whole_log.specs.declared.Mode.{Mode}
 use Rattle.whole_log.specs.Log.{notRead, linesFrom, logOf, ChecksLog}
+use Rattle.whole_log.specs.Part.{readPart, ChecksPart}
+use Rattle.whole_log.proofs.Part.{part-of}
 use Rattle.whole_log.specs.Repeated.{Result as Checked}
 use Rattle.single.proofs.LineCall.{with-refused, with-taken}
+use Rattle.report.specs.declared.Reported.{Reported}
 use Rattle.report.specs.declared.Reported.the-variants.{Length, Refused}
 use Rattle.text_pieces.specs.Pieces.{refusedText}
 use Rattle.report.specs.Text.{textFrom, reportText}
 use Rattle.text_pieces.specs.Writing.{put, LineLow}
 use Rattle.report.specs.RecordText.{linesTo, failsTo, recordText, OfTrace, PrintsRecord}
-use Rattle.report.specs.Report.{Result, reportOf, TextMeans, Reports}
+use Rattle.report.specs.Report.{Result, reportOf, TextMeans, Reports, ReportsPart}
 use Rattle.report.proofs.Printed.{Printed, printed}
 use Rattle.report.proofs.Means.{text-means}
 
@@ -85,7 +89,7 @@ module _ (lay : Layout) (file log w out : List ℕ) (m : ℕ) (size : m ≡ work
     given-here : Given file log (a, v, o)
     given-here = subst (Given file log) (sym (k .answer)) given
 
-    pub of-trace : OfTrace a
+    of-trace : OfTrace a
     of-trace = let g = given-here in record { trace = g .trace; bounded = g .bounded; state = g .state; line = g .line }
 
     module _ (text : List ℕ) (big : 2048 ≤ length text) (text′ : List ℕ) (n : ℕ) (c : PrintsRecord a o text text′ n) where
@@ -122,7 +126,7 @@ module _ (lay : Layout) (file log w out : List ℕ) (m : ℕ) (size : m ≡ work
           let q : n ≡ m = cc in
           sym (ap (take m) (wrote .bytes) ∙ take-at printed-text _ m (sym (wrote .count) ∙ q))
 
-      pub report-written : Reports lay file log w out text (Length n) v o text′
+      report-written : Reports lay file log w out text (Length n) v o text′
       unfolding reportText
       report-written =
           record {
@@ -148,20 +152,46 @@ module _ (lay : Layout) (file log w out text : List ℕ) where
         meaning = λ n x q r. no-length n q;
       }
 
-  pub short-work : (m : ℕ) → m ≡ workSize lay → length w < m → Reports lay file log w out text (Refused 20) w out text
+  short-work : (m : ℕ) → m ≡ workSize lay → length w < m → Reports lay file log w out text (Refused 20) w out text
   unfolding reportOf
   short-work m size l =
       let h : length w < workSize lay = omega arith in
       report-refused (simp (lt-ltb (length w) (workSize lay) h))
 
-  pub short-verdicts : (m : ℕ) → m ≡ workSize lay → m ≤ length w → length out < 256 → Reports lay file log w out text (Refused 20) w out text
+  short-verdicts : (m : ℕ) → m ≡ workSize lay → m ≤ length w → length out < 256 → Reports lay file log w out text (Refused 20) w out text
   unfolding reportOf
   short-verdicts m size k h =
       let l : workSize lay ≤ length w = omega arith in
       report-refused (simp (le-ltb (length w) (workSize lay) l, lt-ltb (length out) 256 h))
 
-  pub short-text : (m : ℕ) → m ≡ workSize lay → m ≤ length w → 256 ≤ length out → length text < 2048 → Reports lay file log w out text (Refused 20) w out text
+  short-text : (m : ℕ) → m ≡ workSize lay → m ≤ length w → 256 ≤ length out → length text < 2048 → Reports lay file log w out text (Refused 20) w out text
   unfolding reportOf
   short-text n size k m h =
       let l : workSize lay ≤ length w = omega arith in
       report-refused (simp (le-ltb (length w) (workSize lay) l, le-ltb (length out) 256 m, lt-ltb (length text) 2048 h))
+
+-- ── the part that is read ──
+module _ (lay : Layout) (mode : Mode) (file log w out text : List ℕ) where
+  abbrev part : List ℕ
+  part = readPart mode file log
+
+  report-part : (a : Reported) (v o text′ : List ℕ) → Reports lay file part w out text a v o text′ → ReportsPart lay mode file log w out text a v o text′
+  report-part a v o text′ r = record { reports = r; part = λ x rule. part-of file x rule mode log }
+
+  pub work-refused : (m : ℕ) → m ≡ workSize lay → length w < m → ReportsPart lay mode file log w out text (Refused 20) w out text
+  work-refused m size l = report-part (Refused 20) w out text (short-work lay file part w out text m size l)
+
+  module _ (m : ℕ) (size : m ≡ workSize lay) (enough : m ≤ length w) where
+    pub verdicts-refused : length out < 256 → ReportsPart lay mode file log w out text (Refused 20) w out text
+    verdicts-refused h = report-part (Refused 20) w out text (short-verdicts lay file part w out text m size enough h)
+
+    module _ (room : 256 ≤ length out) where
+      pub text-refused : length text < 2048 → ReportsPart lay mode file log w out text (Refused 20) w out text
+      text-refused h = report-part (Refused 20) w out text (short-text lay file part w out text m size enough room h)
+
+      module _ (a : LogRead) (v o : List ℕ) (k : ChecksPart lay mode file log w out a v o) where
+        pub part-of-trace : OfTrace a
+        part-of-trace = of-trace lay file part w out m size enough room a v o (k .checks)
+
+        pub part-written : 2048 ≤ length text → (text′ : List ℕ) (n : ℕ) → PrintsRecord a o text text′ n → ReportsPart lay mode file log w out text (Length n) v o text′
+        part-written big text′ n c = report-part (Length n) v o text′ (report-written lay file part w out m size enough room a v o (k .checks) text big text′ n c)

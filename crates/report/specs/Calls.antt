@@ -1,5 +1,5 @@
--- One call of each kind: the layout that it names, what is handed in, what comes back (behind a ′ what a lent buffer holds at exit), and that
--- its contract holds. The demands speak of every such call. That the calls keep their contracts is proved in their
+-- One call of each kind: the layout and the mode that it names, what is handed in, what comes back (behind a ′ what a lent buffer
+-- holds at exit), and that its contract holds. The demands speak of every such call. That the calls keep their contracts is proved in their
 -- crates; `check_line_lent` has the contract of the call with a tally by value. The calls for C and the bytes of a
 -- record promise these answers (`scene_log`, `record_bytes`).
 use Prim.Native.Nat.{ℕ, _≤_}
@@ -18,10 +18,12 @@ use Rattle.tallies.specs.declared.Tally.{Tally}
 use Rattle.tallies.specs.declared.Tallied.{Tallied}
 use Rattle.tallies.specs.Tally.{ChecksTallied}
 use Rattle.reading.specs.declared.LogRead.{LogRead}
-use Rattle.whole_log.specs.Log.{logOf, ChecksLog}
+use Rattle.whole_log.specs.declared.Mode.{Mode}
+use Rattle.whole_log.specs.Log.{logOf}
+use Rattle.whole_log.specs.Part.{readPart, ChecksPart}
 use Rattle.report.specs.declared.Reported.{Reported}
 use Rattle.report.specs.declared.Reported.the-variants as Reported
-use Rattle.report.specs.Report.{reportSize, Reports}
+use Rattle.report.specs.Report.{reportSize, ReportsPart}
 
 -- starting a record
 pub record StartCall : Type 0 where
@@ -54,9 +56,10 @@ pub record TalliedCall : Type 0 where
   pub work′ : List ℕ
   pub checks : ChecksTallied layout file state tally work line answer work′
 
--- a whole log
+-- a whole log, of which the part is read that the mode says
 pub record LogCall : Type 0 where
   pub layout : Layout
+  pub mode : Mode
   pub file : List ℕ
   pub log : List ℕ
   pub work : List ℕ
@@ -64,11 +67,16 @@ pub record LogCall : Type 0 where
   pub answer : LogRead
   pub work′ : List ℕ
   pub verdicts′ : List ℕ
-  pub checks : ChecksLog layout file log work verdicts answer work′ verdicts′
+  pub checks : ChecksPart layout mode file log work verdicts answer work′ verdicts′
+
+-- the part of the log that it reads
+abbrev pub logPart : LogCall → List ℕ
+logPart k = readPart (k .mode) (k .file) (k .log)
 
 -- the report
 pub record ReportCall : Type 0 where
   pub layout : Layout
+  pub mode : Mode
   pub file : List ℕ
   pub log : List ℕ
   pub work : List ℕ
@@ -78,7 +86,11 @@ pub record ReportCall : Type 0 where
   pub work′ : List ℕ
   pub verdicts′ : List ℕ
   pub text′ : List ℕ
-  pub reports : Reports layout file log work verdicts text answer work′ verdicts′ text′
+  pub reports : ReportsPart layout mode file log work verdicts text answer work′ verdicts′ text′
+
+-- the part of the log that it reads
+abbrev pub reportPart : ReportCall → List ℕ
+reportPart k = readPart (k .mode) (k .file) (k .log)
 
 -- ── lent buffers ──
 -- the report's buffers are long enough
@@ -97,7 +109,7 @@ pub data Lent (w w′ : List ℕ) (n : ℕ) : Type 0 where
   log-verdicts : (k : LogCall) → w ≡ k .verdicts → w′ ≡ k .verdicts′ → n ≡ k .answer .state .lines .0 → Lent w w′ n
   report-work : (k : ReportCall) → w ≡ k .work → w′ ≡ k .work′ → n ≡ workSize (k .layout) → Lent w w′ n
   report-verdicts : (k : ReportCall) → w ≡ k .verdicts → w′ ≡ k .verdicts′
-      → n ≡ logOf (k .layout) (k .file) (k .log) (k .work) (k .verdicts) .0 .state .lines .0 → Lent w w′ n
+      → n ≡ logOf (k .layout) (k .file) (reportPart k) (k .work) (k .verdicts) .0 .state .lines .0 → Lent w w′ n
   report-text : (k : ReportCall) → w ≡ k .text → w′ ≡ k .text′ → k .answer ≡ Reported.Length n → Lent w w′ n
 
 -- from place n on the bytes are the same

@@ -15,7 +15,9 @@ use Rattle.rules.specs.declared.RuleRead.the-variants as RuleRead
 use Rattle.rules.specs.Rules.{ruleOf, formulaOf}
 use Rattle.logic.specs.declared.Verdict.{Verdict}
 use Rattle.logic.specs.Verdict.{Says}
+use Rattle.whole_log.specs.declared.Mode.{Mode}
 use Rattle.whole_log.specs.Log.{logOf}
+use Rattle.whole_log.specs.Part.{readPart, PartOf}
 use Rattle.tallies.specs.Tally.{tallyOf, failingFrom, tallyAfter}
 use Rattle.report.specs.declared.Reported.{Reported}
 use Rattle.report.specs.declared.Reported.the-variants.{Length, Refused}
@@ -64,3 +66,8 @@ pub record Reports (lay : Layout) (file log w out text : List ℕ) (a : Reported
   -- "A refused rule prints `0 R` and the number joined, and nothing else."
   pub unruled : (n c : ℕ) → a ≡ Length n → ruleOf file ≡ RuleRead.Refused c → take n text′ ≡ refusedText 0 c
   pub meaning : (n : ℕ) (x : Rule) → a ≡ Length n → ruleOf file ≡ RuleRead.Rule x → TextMeans file x log (take n text′)
+
+-- the contract of the call, which names a mode: the report is that of the part that is read
+pub record ReportsPart (lay : Layout) (mode : Mode) (file log w out text : List ℕ) (a : Reported) (w′ out′ text′ : List ℕ) : Type 0 where
+  pub reports : Reports lay file (readPart mode file log) w out text a w′ out′ text′
+  pub part : (x : Rule) → ruleOf file ≡ RuleRead.Rule x → PartOf mode file x log (readPart mode file log)

@@ -19,7 +19,7 @@ use Rattle.logic.specs.Satisfies.{Related}
 use Rattle.logic.specs.Verdict.{verdictByte, Says}
 use Rattle.reading.specs.declared.Ending.the-variants as Ending
 use Rattle.reading.specs.Left.{Left}
-use Rattle.report.specs.Calls.{LogCall}
+use Rattle.report.specs.Calls.{LogCall, logPart}
 
 -- the byte at the place of runs a and b, after the lines that t stands for
 pub record Notes (t : Trace) (a b byte : ℕ) : Type 0 where
@@ -45,14 +45,14 @@ pub record Judged (lay : Layout) (file : List ℕ) (x : Rule) (log : List ℕ) (
   pub settled : Settled lay log r w
   pub verdict : Says (settled .trace) (formulaOf file x) v
 
--- the lines of a whole log: those before the first that is refused are taken, and each has its verdict byte
+-- the lines of the part of a whole log that is read: those before the first that is refused are taken, and each has its verdict byte
 pub record Reads (k : LogCall) (x : Rule) : Type 0 where
   pub taken : List ℕ
   pub rest : List (List ℕ)
-  pub divides : linesOf (k .log) ≡ linesOf taken ++ rest
+  pub divides : linesOf (logPart k) ≡ linesOf taken ++ rest
   pub whole : k .answer .ending ≡ Ending.Read → rest ≡ []
   pub stops : (c n : ℕ) → k .answer .ending ≡ Ending.Refused c n → (rest ≢ []) × (n ≡ length (linesOf taken) + 1)
   pub settled : Settled (k .layout) taken (k .answer .state) (k .work′)
-  pub verdicts : (n : ℕ) (part : List ℕ) (u : Trace) → n < length (linesOf (k .log))
-      → linesOf part ≡ take (suc n) (linesOf (k .log)) → Accepted part u
+  pub verdicts : (n : ℕ) (part : List ℕ) (u : Trace) → n < length (linesOf (logPart k))
+      → linesOf part ≡ take (suc n) (linesOf (logPart k)) → Accepted part u
       → (v : Verdict) × (getD (k .verdicts′) n 0 ≡ verdictByte v) × Says u (formulaOf (k .file) x) v

@@ -8,11 +8,12 @@ ghost use Rattle.lists.specs.Limits.{maxLines};
 ghost use Rattle.text_pieces.specs.Writing.{Writes, WritesFew};
 ghost use Rattle.report.specs.Text.{tallyText};
 ghost use Rattle.report.specs.RecordText.{byteFails, linesTo, failsTo, Printable, OfTrace, PrintsRecord};
-ghost use Rattle.report.specs.Report.{reportSize, Reports};
+ghost use Rattle.report.specs.Report.{reportSize, ReportsPart};
 use lists::MAX_LINES;
 use pairs::Layout;
 use reading::LogRead;
 use tallies::Tally;
+use whole_log::Mode;
 
 // The shortest text buffer that is taken: reportSize of specs. The longest report has 256 lines of accepted lines, one of a refusal and one of a tally.
 pub const REPORT_BYTES: usize = 2048;
@@ -91,16 +92,18 @@ fn put_record(text: &mut [u8], verdicts: &[u8], c: LogRead) -> usize
     put_tally(text, end, tally)
 }
 
-// The check's whole output for a rule file and a log: its length, and the text in the buffer. Refused where a buffer is too short.
+// The check's whole output for a rule file and the part of a log that is read: its length, and the text in the buffer. Refused where a
+// buffer is too short.
 pub fn report(
     layout: Layout,
+    mode: Mode,
     file: &[u8],
     log: &[u8],
     work: &mut [u8],
     verdicts: &mut [u8],
     text: &mut [u8],
 ) -> Reported
-    ensures { λ a. ⌜ Reports layout (now (file .entry)) (now (log .entry)) (now (work .entry)) (now (verdicts .entry)) (now (text .entry)) a (now (work .exit)) (now (verdicts .exit)) (now (text .exit)) ⌝ }
+    ensures { λ a. ⌜ ReportsPart layout mode (now (file .entry)) (now (log .entry)) (now (work .entry)) (now (verdicts .entry)) (now (text .entry)) a (now (work .exit)) (now (verdicts .exit)) (now (text .exit)) ⌝ }
 {
     let end = pairs::work_bytes(layout);
     if work.len() < end {
@@ -112,7 +115,7 @@ pub fn report(
     if text.len() < REPORT_BYTES {
         return Reported::Refused(20);
     }
-    let c = whole_log::check_log(layout, file, log, work, verdicts);
+    let c = whole_log::check_log(layout, mode, file, log, work, verdicts);
     let n = put_record(text, verdicts, c);
     Reported::Length(n)
 }

@@ -2,16 +2,18 @@
 //
 // A work area holds 7s before the call, a verdict buffer 9s, a text buffer dots. Where the call is refused, how many of each are left.
 //
-// A case is a kind and a text (`test_cases`): `r` gives the rule file, `y` the layout, 0 square (as at first) or 1 half, `b` how many
-// bytes of the work area, the verdict buffer and the text buffer are lent, of 16400, 260 and 2100; `+` gives lines of a log, `p` its last
+// A case is a kind and a text (`test_cases`): `r` gives the rule file, `y` the layout, 0 square (as at first) or 1 half, `m` the
+// mode, 0 up to the first failure (as at first) or 1 full, `b` how many bytes of the work area, the verdict buffer and the text buffer are lent, of 16400, 260 and 2100; `+` gives lines of a log, `p` its last
 // lines and has the report printed; `=` writes its text.
 use libc::STDIN_FILENO;
 use pairs::Layout;
 use report::Reported;
+use whole_log::Mode;
 
-// The layout, and how many bytes of the rule file, the log, the work area, the verdict buffer and the text buffer are in use.
+// The layout, the mode, and how many bytes of the rule file, the log, the work area, the verdict buffer and the text buffer are in use.
 struct Sizes {
     layout: usize,
+    mode: usize,
     rule: usize,
     log: usize,
     work: usize,
@@ -50,6 +52,7 @@ fn show(a: Reported, work: &[u8], verdicts: &[u8], text: &[u8]) {
 // The report with the first w, v and t bytes of three buffers.
 fn report_in(
     l: Layout,
+    m: Mode,
     file: &[u8],
     log: &[u8],
     work: &mut [u8],
@@ -64,6 +67,7 @@ fn report_in(
             if t <= text.len() {
                 return report::report(
                     l,
+                    m,
                     file,
                     log,
                     &mut work[0..w],
@@ -81,14 +85,25 @@ fn layout(n: usize) -> Layout {
     if n == 0 { Layout::Square } else { Layout::Half }
 }
 
+// The mode of a number.
+fn mode(n: usize) -> Mode {
+    if n == 1 {
+        Mode::Full
+    } else {
+        Mode::FirstFailure
+    }
+}
+
 // A rule file and a log.
 fn print(s: Sizes, file: &[u8], log: &[u8]) {
     let mut work = [7u8; 16400];
     let mut verdicts = [9u8; 260];
     let mut text = [b'.'; 2100];
     let l = layout(s.layout);
+    let m = mode(s.mode);
     let a = report_in(
         l,
+        m,
         file,
         log,
         &mut work,
@@ -135,6 +150,10 @@ fn after(s: Sizes, file: &mut [u8], log: &mut [u8], kind: u8, text: &[u8]) -> Si
         q.layout = test_cases::size(text, 0);
         return q;
     }
+    if kind == b'm' {
+        q.mode = test_cases::size(text, 0);
+        return q;
+    }
     if kind == b'b' {
         q.work = test_cases::size(text, 0);
         q.verdicts = test_cases::size(text, 1);
@@ -157,6 +176,7 @@ fn after(s: Sizes, file: &mut [u8], log: &mut [u8], kind: u8, text: &[u8]) -> Si
 fn run(input: &[u8], file: &mut [u8], log: &mut [u8]) {
     let mut s = Sizes {
         layout: 0,
+        mode: 0,
         rule: 0,
         log: 0,
         work: 16400,

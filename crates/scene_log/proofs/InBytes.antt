@@ -33,7 +33,9 @@ use Rattle.reading.specs.declared.LogRead.{LogRead}
 use Rattle.tallies.specs.declared.Tally.{Tally}
 use Rattle.tallies.specs.declared.Tallied.{Tallied}
 use Rattle.tallies.specs.Tally.{ChecksTallied}
+use Rattle.whole_log.specs.declared.Mode.{Mode}
 use Rattle.whole_log.specs.Log.{logOf, ChecksLog}
+use Rattle.whole_log.specs.Part.{readPart, ChecksPart}
 use Rattle.single.specs.Line.{judged, ChecksLine}
 use Rattle.whole_log.proofs.Repeated.{left-by}
 use Rattle.record_bytes.specs.declared.PackOutcome.{PackOutcome as Packed}
@@ -41,7 +43,7 @@ use Rattle.record_bytes.specs.declared.Unpacked.{Unpacked}
 use Rattle.record_bytes.specs.Form.{recordSize, recordFrom}
 use Rattle.record_bytes.specs.Calls.{unpackOf, Unpacks, Packs}
 use Rattle.record_bytes.proofs.Carried.{packed-and-unpacked}
-use Rattle.answer_numbers.specs.Numbers.{relationNumber}
+use Rattle.answer_numbers.specs.Numbers.{relationNumber, modeNamed, NamesMode}
 use Rattle.answer_numbers.specs.InBytes.{asByte, recordIn, bytesAfter, lineNumbered, tallyFrom, tallyIn, numbersAfter, talliedNumbered, bytesLeft, logKept}
 use Rattle.answer_numbers.proofs.Numbered.{packed, byte-above, byte-same}
 use Rattle.scene_log.specs.InBytes.{startNumbered, StartsNumber, ChecksBytes, ChecksLineNumber, ChecksTalliedBytes, ChecksTalliedNumber, KeepsLog, KeepsLogNumber, NumbersRuns, RelatesBytes, RelatesNumber}
@@ -216,7 +218,7 @@ module _ (lay : Layout) (file log b w out : List ℕ) where
             );
       }
 
-  pub log-kept : recordSize ≤ length b → (a : LogRead) (w′ out′ : List ℕ) → ChecksLog lay file log w out a w′ out′
+  log-kept : recordSize ≤ length b → (a : LogRead) (w′ out′ : List ℕ) → ChecksLog lay file log w out a w′ out′
       → (n : ℕ) (b′ : List ℕ) → _≡_ {A = ℕ × List ℕ} (n, b′) (logKept a b) → KeepsLogNumber lay file log b w out n b′ w′ out′
   log-kept h a w′ out′ k n b′ e =
       let same : a ≡ logOf lay file log w out .0 = ap (λ (z : LogRead × List ℕ × List ℕ). z .0) (k .answer) in
@@ -225,6 +227,14 @@ module _ (lay : Layout) (file log b w out : List ℕ) where
         long = λ _.
             keeps n b′ w′ out′ (subst (λ (z : LogRead). ChecksLog lay file log w out z w′ out′) same k) (e ∙ ap (λ (z : LogRead). logKept z b) same);
       }
+
+-- in the mode that a number names
+pub part-kept : (lay : Layout) (m : ℕ) (how : Mode) → NamesMode m how → (file log b w out : List ℕ) → recordSize ≤ length b → (a : LogRead) (w′ out′ : List ℕ)
+    → ChecksPart lay how file log w out a w′ out′ → (n : ℕ) (b′ : List ℕ) → _≡_ {A = ℕ × List ℕ} (n, b′) (logKept a b)
+    → KeepsLogNumber lay file (readPart (modeNamed m) file log) b w out n b′ w′ out′
+part-kept lay m how q file log b w out h a w′ out′ k n b′ e =
+    subst (λ (z : Mode). KeepsLogNumber lay file (readPart z file log) b w out n b′ w′ out′) (q .answer)
+    (log-kept lay file (readPart how file log) b w out h a w′ out′ (k .checks) n b′ e)
 
 -- ── two runs ──
 -- no run has a number above 127, so the numbers above 255 are as good as 255

@@ -11,10 +11,12 @@ use Rattle.relations.specs.Compose.{composedOf, Composition}
 use Rattle.relations.proofs.Sets.{not-conversed}
 use Rattle.relations.proofs.Demand.{demand-3, first-no-set, second-no-set}
 use Rattle.reading.specs.declared.LogRead.{LogRead}
+use Rattle.whole_log.specs.declared.Mode.{Mode}
 use Rattle.whole_log.specs.Log.{ChecksLog}
+use Rattle.whole_log.specs.Part.{readPart, ChecksPart}
 use Rattle.report.specs.declared.Reported.{Reported}
-use Rattle.report.specs.Report.{Result, Reports}
-use Rattle.answer_numbers.specs.Numbers.{setNumber, logNumber, reportNumber}
+use Rattle.report.specs.Report.{Result, Reports, ReportsPart}
+use Rattle.answer_numbers.specs.Numbers.{setNumber, logNumber, reportNumber, modeNamed, NamesMode}
 use Rattle.answer_numbers.specs.InBytes.{asByte}
 use Rattle.answer_numbers.proofs.Numbered.{byte-above, byte-same}
 use Rattle.scene_log.specs.Numbers.{logNumbered, reportNumbered, ComposesNumbers, ConversesNumber, ChecksLogNumber, ReportsNumber}
@@ -56,7 +58,7 @@ converses a a′ q w c n e =
     record { answer = e ∙ ap setNumber (m .answer); meaning = subst (Conversed a) (m .answer) m })
 
 -- ── a whole log ──
-pub checks : (lay : Layout) (file log w out : List ℕ) (a : LogRead) (n : ℕ) (w′ out′ : List ℕ)
+checks : (lay : Layout) (file log w out : List ℕ) (a : LogRead) (n : ℕ) (w′ out′ : List ℕ)
     → ChecksLog lay file log w out a w′ out′ → n ≡ logNumber a → ChecksLogNumber lay file log w out n w′ out′
 checks lay file log w out a n w′ out′ c e =
     record {
@@ -64,11 +66,24 @@ checks lay file log w out a n w′ out′ c e =
       meaning = subst (λ (z : LogRead). ChecksLog lay file log w out z w′ out′) (ap (λ (z : LogRead × List ℕ × List ℕ). z .0) (c .answer)) c;
     }
 
+-- in the mode that a number names
+pub checks-part : (lay : Layout) (m : ℕ) (how : Mode) → NamesMode m how → (file log w out : List ℕ) (a : LogRead) (n : ℕ) (w′ out′ : List ℕ)
+    → ChecksPart lay how file log w out a w′ out′ → n ≡ logNumber a → ChecksLogNumber lay file (readPart (modeNamed m) file log) w out n w′ out′
+checks-part lay m how q file log w out a n w′ out′ c e =
+    subst (λ (z : Mode). ChecksLogNumber lay file (readPart z file log) w out n w′ out′) (q .answer) (checks lay file (readPart how file log) w out a n w′ out′ (c .checks) e)
+
 -- ── a report ──
-pub reports : (lay : Layout) (file log w out text : List ℕ) (a : Reported) (w′ out′ text′ : List ℕ) → Reports lay file log w out text a w′ out′ text′
+reports : (lay : Layout) (file log w out text : List ℕ) (a : Reported) (w′ out′ text′ : List ℕ) → Reports lay file log w out text a w′ out′ text′
     → (n : ℕ) → n ≡ reportNumber a → ReportsNumber lay file log w out text n w′ out′ text′
 reports lay file log w out text a w′ out′ text′ r n e =
     record {
       answer = ap (λ (k : ℕ). (k, w′, out′, text′)) e ∙ ap reportNumbered (r .answer);
       meaning = subst (λ (z : Reported). Reports lay file log w out text z w′ out′ text′) (ap (λ (z : Result). z .0) (r .answer)) r;
     }
+
+pub reports-part : (lay : Layout) (m : ℕ) (how : Mode) → NamesMode m how → (file log w out text : List ℕ) (a : Reported) (w′ out′ text′ : List ℕ)
+    → ReportsPart lay how file log w out text a w′ out′ text′ → (n : ℕ) → n ≡ reportNumber a
+    → ReportsNumber lay file (readPart (modeNamed m) file log) w out text n w′ out′ text′
+reports-part lay m how q file log w out text a w′ out′ text′ r n e =
+    subst (λ (z : Mode). ReportsNumber lay file (readPart z file log) w out text n w′ out′ text′) (q .answer)
+    (reports lay file (readPart how file log) w out text a w′ out′ text′ (r .reports) n e)

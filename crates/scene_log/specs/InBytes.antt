@@ -27,7 +27,8 @@ use Rattle.reading.specs.declared.LogRead.{LogRead}
 use Rattle.tallies.specs.declared.Tallied.{Tallied}
 use Rattle.tallies.specs.Tally.{counts?, ChecksTallied}
 use Rattle.whole_log.specs.Log.{logOf, LogStopped, ChecksLog}
-use Rattle.answer_numbers.specs.Numbers.{refusal, relationNumber, ByLayout}
+use Rattle.whole_log.specs.Part.{readPart}
+use Rattle.answer_numbers.specs.Numbers.{refusal, relationNumber, ByLayout, modeNamed}
 use Rattle.answer_numbers.specs.InBytes.{recordIn, lineNumbered, tallyFrom, talliedNumbered, logKept}
 
 -- ── the start of a record ──
@@ -111,9 +112,9 @@ pub record KeepsLogNumber (lay : Layout) (file log b w out : List ℕ) (n : ℕ)
   pub short : length b < recordSize → _≡_ {A = ℕ × List ℕ × List ℕ × List ℕ} (n, b′, w′, out′) (unchanged b w out)
   pub long : recordSize ≤ length b → KeepsLog lay file log b w out n b′ w′ out′
 
-abbrev pub KeepsLogFor : ℕ → List ℕ → List ℕ → List ℕ → List ℕ → List ℕ → ℕ → List ℕ → List ℕ → List ℕ → Type 0
-KeepsLogFor l file log b w out n b′ w′ out′ =
-    ByLayout l (λ lay. KeepsLogNumber lay file log b w out n b′ w′ out′)
+abbrev pub KeepsLogFor : ℕ → ℕ → List ℕ → List ℕ → List ℕ → List ℕ → List ℕ → ℕ → List ℕ → List ℕ → List ℕ → Type 0
+KeepsLogFor l m file log b w out n b′ w′ out′ =
+    ByLayout l (λ lay. KeepsLogNumber lay file (readPart (modeNamed m) file log) b w out n b′ w′ out′)
     (_≡_ {A = ℕ × List ℕ × List ℕ × List ℕ} (n, b′, w′, out′) (unchanged b w out))
 
 -- ── two runs ──

@@ -8,7 +8,8 @@ use Rattle.relations.specs.Runs.{Conversed}
 use Rattle.relations.specs.Compose.{composedOf, CompositionLaw}
 use Rattle.reading.specs.declared.LogRead.{LogRead}
 use Rattle.whole_log.specs.Log.{logOf, ChecksLog}
-use Rattle.answer_numbers.specs.Numbers.{refusal, setNumber, logNumber, reportNumber, ByLayout}
+use Rattle.whole_log.specs.Part.{readPart}
+use Rattle.answer_numbers.specs.Numbers.{refusal, setNumber, logNumber, reportNumber, ByLayout, modeNamed}
 use Rattle.report.specs.Report.{Result, reportOf, Reports}
 use Rattle.pairs.specs.declared.Layout.{Layout}
 
@@ -32,10 +33,10 @@ pub record ChecksLogNumber (lay : Layout) (file log w out : List ℕ) (n : ℕ) 
   pub answer : _≡_ {A = ℕ × List ℕ × List ℕ} (n, w′, out′) (logNumbered (logOf lay file log w out))
   pub meaning : ChecksLog lay file log w out (logOf lay file log w out .0) w′ out′
 
--- by the number of a layout
-abbrev pub ChecksLogFor : ℕ → List ℕ → List ℕ → List ℕ → List ℕ → ℕ → List ℕ → List ℕ → Type 0
-ChecksLogFor l file log w out n w′ out′ =
-    ByLayout l (λ lay. ChecksLogNumber lay file log w out n w′ out′) (_≡_ {A = ℕ × List ℕ × List ℕ} (n, w′, out′) (refusal 20, w, out))
+-- by the number of a layout and that of a mode: of the part of the log that is read
+abbrev pub ChecksLogFor : ℕ → ℕ → List ℕ → List ℕ → List ℕ → List ℕ → ℕ → List ℕ → List ℕ → Type 0
+ChecksLogFor l m file log w out n w′ out′ =
+    ByLayout l (λ lay. ChecksLogNumber lay file (readPart (modeNamed m) file log) w out n w′ out′) (_≡_ {A = ℕ × List ℕ × List ℕ} (n, w′, out′) (refusal 20, w, out))
 
 -- ── a report ──
 abbrev pub reportNumbered : Result → ℕ × List ℕ × List ℕ × List ℕ
@@ -46,7 +47,7 @@ pub record ReportsNumber (lay : Layout) (file log w out text : List ℕ) (n : �
   pub answer : _≡_ {A = ℕ × List ℕ × List ℕ × List ℕ} (n, w′, out′, text′) (reportNumbered (reportOf lay file log w out text))
   pub meaning : Reports lay file log w out text (reportOf lay file log w out text .0) w′ out′ text′
 
-abbrev pub ReportsFor : ℕ → List ℕ → List ℕ → List ℕ → List ℕ → List ℕ → ℕ → List ℕ → List ℕ → List ℕ → Type 0
-ReportsFor l file log w out text n w′ out′ text′ =
-    ByLayout l (λ lay. ReportsNumber lay file log w out text n w′ out′ text′)
+abbrev pub ReportsFor : ℕ → ℕ → List ℕ → List ℕ → List ℕ → List ℕ → List ℕ → ℕ → List ℕ → List ℕ → List ℕ → Type 0
+ReportsFor l m file log w out text n w′ out′ text′ =
+    ByLayout l (λ lay. ReportsNumber lay file (readPart (modeNamed m) file log) w out text n w′ out′ text′)
     (_≡_ {A = ℕ × List ℕ × List ℕ × List ℕ} (n, w′, out′, text′) (refusal 20, w, out, text))

@@ -1,5 +1,7 @@
-// The calls that are lent a work area, in one layout.
+// The calls that are lent a work area, in one layout. Those on a whole log name a mode by its number.
 ghost use mathlib.Core.Path.{_≡_};
+ghost use Rattle.whole_log.specs.Part.{readPart};
+ghost use Rattle.answer_numbers.specs.Numbers.{modeNamed};
 ghost use Rattle.scene_log.specs.Numbers.{ChecksLogNumber, ReportsNumber};
 ghost use Rattle.scene_log.specs.InBytes.{StartsNumber, ChecksLineNumber, ChecksTalliedNumber, KeepsLogNumber};
 use crate::RECORD_BYTES;
@@ -13,47 +15,53 @@ const TALLY_COUNTS: usize = 5;
 // The report of a rule file and a log at the start of the text: its length, or the refusal.
 pub fn report(
     layout: Layout,
+    mode: u32,
     rule: &[u8],
     log: &[u8],
     work: &mut [u8],
     verdicts: &mut [u8],
     text: &mut [u8],
 ) -> u32
-    ensures { λ n. ⌜ ReportsNumber layout (now (rule .entry)) (now (log .entry)) (now (work .entry)) (now (verdicts .entry)) (now (text .entry)) n (now (work .exit)) (now (verdicts .exit)) (now (text .exit)) ⌝ }
+    ensures { λ n. ⌜ ReportsNumber layout (now (rule .entry)) (readPart (modeNamed mode) (now (rule .entry)) (now (log .entry))) (now (work .entry)) (now (verdicts .entry)) (now (text .entry)) n (now (work .exit)) (now (verdicts .exit)) (now (text .exit)) ⌝ }
 {
-    let a = report::report(layout, rule, log, work, verdicts, text);
+    let how = answer_numbers::mode_of(mode);
+    let a = report::report(layout, how, rule, log, work, verdicts, text);
     answer_numbers::report_number(a)
 }
 
 // A whole log with a rule file: the number of lines that are taken; or the refusal and the number of the refused line.
 pub fn check_log(
     layout: Layout,
+    mode: u32,
     rule: &[u8],
     log: &[u8],
     work: &mut [u8],
     verdicts: &mut [u8],
 ) -> u32
-    ensures { λ n. ⌜ ChecksLogNumber layout (now (rule .entry)) (now (log .entry)) (now (work .entry)) (now (verdicts .entry)) n (now (work .exit)) (now (verdicts .exit)) ⌝ }
+    ensures { λ n. ⌜ ChecksLogNumber layout (now (rule .entry)) (readPart (modeNamed mode) (now (rule .entry)) (now (log .entry))) (now (work .entry)) (now (verdicts .entry)) n (now (work .exit)) (now (verdicts .exit)) ⌝ }
 {
-    let c = monitor::check_log(layout, rule, log, work, verdicts);
+    let how = answer_numbers::mode_of(mode);
+    let c = monitor::check_log(layout, how, rule, log, work, verdicts);
     answer_numbers::log_number(c)
 }
 
 // The same, with the record of the lines that are taken in bytes.
 pub fn check_log_record(
     layout: Layout,
+    mode: u32,
     rule: &[u8],
     log: &[u8],
     carried: &mut [u8],
     work: &mut [u8],
     verdicts: &mut [u8],
 ) -> u32
-    ensures { λ n. ⌜ KeepsLogNumber layout (now (rule .entry)) (now (log .entry)) (now (carried .entry)) (now (work .entry)) (now (verdicts .entry)) n (now (carried .exit)) (now (work .exit)) (now (verdicts .exit)) ⌝ }
+    ensures { λ n. ⌜ KeepsLogNumber layout (now (rule .entry)) (readPart (modeNamed mode) (now (rule .entry)) (now (log .entry))) (now (carried .entry)) (now (work .entry)) (now (verdicts .entry)) n (now (carried .exit)) (now (work .exit)) (now (verdicts .exit)) ⌝ }
 {
     if carried.len() < RECORD_BYTES {
         return TOO_SHORT;
     }
-    let c = monitor::check_log(layout, rule, log, work, verdicts);
+    let how = answer_numbers::mode_of(mode);
+    let c = monitor::check_log(layout, how, rule, log, work, verdicts);
     answer_numbers::keep_log(c, carried)
 }
 

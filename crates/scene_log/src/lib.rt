@@ -4,7 +4,8 @@
 // library is a number here; `answer_numbers` says which: 65,536 times a refusal, anything else below 65,536. `specs/Numbers.antt`
 // has the contracts. The carried record is 2,628 bytes, in the form of `record_bytes`, and a tally is five numbers;
 // `specs/InBytes.antt` has the contracts of the calls that take them. A slip is a byte a run; `specs/Slips.antt` has its contracts. A call
-// that is lent a work area names its layout by a number, and `in_layout` has it for each layout.
+// that is lent a work area names its layout by a number, and `in_layout` has it for each layout. A call on a whole log names a mode by
+// a number too: 1 is the full one, any other the default, which stops at the first failure.
 ghost use mathlib.Core.Path.{_≡_};
 ghost use Rattle.labels.specs.Fnv.{fnvOf};
 ghost use Rattle.scene_log.specs.Numbers.{ComposesNumbers, ConversesNumber, ChecksLogFor, ReportsFor};
@@ -31,19 +32,20 @@ const TOO_SHORT: u32 = 20 * answer_numbers::REFUSAL_STEP;
 #[no_mangle]
 pub extern "C" fn scene_log_report(
     layout: u32,
+    mode: u32,
     rule: &[u8],
     log: &[u8],
     work: &mut [u8],
     verdicts: &mut [u8],
     text: &mut [u8],
 ) -> u32
-    ensures { λ n. ⌜ ReportsFor layout (now (rule .entry)) (now (log .entry)) (now (work .entry)) (now (verdicts .entry)) (now (text .entry)) n (now (work .exit)) (now (verdicts .exit)) (now (text .exit)) ⌝ }
+    ensures { λ n. ⌜ ReportsFor layout mode (now (rule .entry)) (now (log .entry)) (now (work .entry)) (now (verdicts .entry)) (now (text .entry)) n (now (work .exit)) (now (verdicts .exit)) (now (text .exit)) ⌝ }
 {
     if LAST_LAYOUT < layout {
         return TOO_SHORT;
     }
     let named = answer_numbers::layout_of(layout);
-    in_layout::report(named, rule, log, work, verdicts, text)
+    in_layout::report(named, mode, rule, log, work, verdicts, text)
 }
 
 // The rule file of a typed rule at the start of the rule: its length, or the refusal.
@@ -68,37 +70,39 @@ pub extern "C" fn scene_log_text_from_rule(rule: &[u8], text: &mut [u8]) -> u32
 #[no_mangle]
 pub extern "C" fn scene_log_check_log(
     layout: u32,
+    mode: u32,
     rule: &[u8],
     log: &[u8],
     work: &mut [u8],
     verdicts: &mut [u8],
 ) -> u32
-    ensures { λ n. ⌜ ChecksLogFor layout (now (rule .entry)) (now (log .entry)) (now (work .entry)) (now (verdicts .entry)) n (now (work .exit)) (now (verdicts .exit)) ⌝ }
+    ensures { λ n. ⌜ ChecksLogFor layout mode (now (rule .entry)) (now (log .entry)) (now (work .entry)) (now (verdicts .entry)) n (now (work .exit)) (now (verdicts .exit)) ⌝ }
 {
     if LAST_LAYOUT < layout {
         return TOO_SHORT;
     }
     let named = answer_numbers::layout_of(layout);
-    in_layout::check_log(named, rule, log, work, verdicts)
+    in_layout::check_log(named, mode, rule, log, work, verdicts)
 }
 
 // The same, with the record of the lines that are taken in bytes.
 #[no_mangle]
 pub extern "C" fn scene_log_check_log_record(
     layout: u32,
+    mode: u32,
     rule: &[u8],
     log: &[u8],
     carried: &mut [u8],
     work: &mut [u8],
     verdicts: &mut [u8],
 ) -> u32
-    ensures { λ n. ⌜ KeepsLogFor layout (now (rule .entry)) (now (log .entry)) (now (carried .entry)) (now (work .entry)) (now (verdicts .entry)) n (now (carried .exit)) (now (work .exit)) (now (verdicts .exit)) ⌝ }
+    ensures { λ n. ⌜ KeepsLogFor layout mode (now (rule .entry)) (now (log .entry)) (now (carried .entry)) (now (work .entry)) (now (verdicts .entry)) n (now (carried .exit)) (now (work .exit)) (now (verdicts .exit)) ⌝ }
 {
     if LAST_LAYOUT < layout {
         return TOO_SHORT;
     }
     let named = answer_numbers::layout_of(layout);
-    in_layout::check_log_record(named, rule, log, carried, work, verdicts)
+    in_layout::check_log_record(named, mode, rule, log, carried, work, verdicts)
 }
 
 // Starts a record in bytes and its work area: 0, or the refusal.

@@ -76,14 +76,14 @@ module _ (r : Record) (v : Valid r) where
   pub done-low : (o : Order) → Orders (r .runs) (r .lines .0) o → (l : ℕ) → getD (o .done) l 0 ≤ 128
   done-low o h = done-few (v .log) (v .trace) (v .accepted) o (order-holds (v .log) (v .trace) (v .accepted) r (v .encoded) o h)
 
-  pub judges-from : (file : List ℕ) (x : Rule) (line : ℕ) (wanted : List ℕ) (o : Order) (first : Bool) (s : RunSet) → Taken file x
+  pub judges-from : (file : List ℕ) (x : Rule) (line : ℕ) (stop : Bool) (wanted : List ℕ) (o : Order) (first : Bool) (s : RunSet) → Taken file x
       → Orders (r .runs) (r .lines .0) o → Found file x r wanted → first ≡ truth noRuns (formulaOf file x) (λ _. 0) 0
-      → TrueOfRanks file x wanted (r .runs) o (getD (o .done) line 0 - 1) s → JudgesFrom file x r line (record { moments = s; first = first; done = o .done })
-  judges-from file x line wanted o first s taken h found before ranks =
+      → TrueOfRanks stop file x wanted (r .runs) o (getD (o .done) line 0 - 1) s → JudgesFrom file x r line stop (record { moments = s; first = first; done = o .done })
+  judges-from file x line stop wanted o first s taken h found before ranks =
       record {
         fits = done-low o h;
         says = λ log u a e.
             let H : OrderHeld (orderTo (u .runs)) (u .lines) o = order-holds log u a r e o h in
-            line-says log u a o H (formulaOf file x) (taken .closed) (record { moments = s; first = first; done = o .done }) refl line
+            line-says log u a o H (formulaOf file x) (taken .closed) (record { moments = s; first = first; done = o .done }) refl line stop
             (ranks log u a (ap (λ (q : Record). q .runs) e) H (wanted-in log u a r e file x wanted taken found)) before;
       }

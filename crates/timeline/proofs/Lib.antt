@@ -2,6 +2,9 @@ pub mod Mirrored
 pub mod Front
 pub mod Bridge
 pub mod Root
+pub mod Until
+pub mod Reached
 pub mod AllLines
 pub mod Answer
 pub mod LastLine
+pub mod FirstLine

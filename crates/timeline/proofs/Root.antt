@@ -66,9 +66,6 @@ true-among M f ρ low n all dom s closed few below from h j k l σ =
     let in-dom : mem dom j ≡ true = from j ∙ ap₂ _&&_ (below j ∙ lt-ltb j n l) (le-leb low j k) in
     h j (omega arith) ∙ (ap (λ (b : Bool). b && truth M f (at ρ j) j) in-dom ∙ eval-closed (atMoment M j) f (at ρ j) σ closed)
 
-pub among-from : (M : Model) (f : Formula) (low m n : ℕ) (s : RunSet) → low ≡ m → TrueAmong M f low n s → TrueAmong M f m n s
-among-from M f low m n s e h j k l σ = h j (omega arith) l σ
-
 -- ── a table of zeros ──
 none-paired : (k i j : ℕ) → pairOf noRuns k i j ≡ false
 unfolding pairOf

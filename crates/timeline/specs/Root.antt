@@ -2,7 +2,7 @@
 -- What evaluating a rule for all moments needs and promises.
 use Prim.Native.Nat.{ℕ, _<_, _≤_}
 use mathlib.Core.Path.{_≡_}
-use mathlib.Core.Bool.{false}
+use mathlib.Core.Bool.{Bool, true, false}
 use mathlib.Core.List.{List}
 use lib.ListN.{length, getD}
 use Rattle.sets.specs.Sets.{mem}
@@ -41,12 +41,23 @@ pub record Shaped (file : List ℕ) (x : Rule) (heights frees : List ℕ) : Type
 abbrev pub TrueAmong : Model → Formula → ℕ → ℕ → RunSet → Type 0
 TrueAmong M f low n s = (j : ℕ) → low ≤ j → j < n → (ρ : Binding) → mem s j ≡ truth M f ρ j
 
+-- The same; where the search may stop, s need be right only up to the first moment at which f is false.
+abbrev pub TrueUntil : Bool → Model → Formula → ℕ → ℕ → RunSet → Type 0
+TrueUntil stop M f low n s =
+    (j : ℕ) → low ≤ j → j < n → (stop ≡ true → (i : ℕ) → low ≤ i → i < j → mem s i ≡ true) → (ρ : Binding) → mem s j ≡ truth M f ρ j
+
+-- how many of the runs a search goes by: all of them, unless it may stop
+pub record SearchEnd (count : ℕ) (stop : Bool) (e : ℕ) : Type 0 where
+  pub few : e ≤ count
+  pub all : stop ≡ false → e ≡ count
+  pub some : 0 < count → 0 < e
+
 -- the numbers of a rule file's labels among those of a trace
 abbrev pub WantedIn : Trace → List ℕ → List ℕ → Type 0
 WantedIn u file wanted = (p : ℕ) → p < labelCount file → getD wanted p 0 ≡ numberFor (u .labels) (labelBytes file p)
 
 -- s has the moments from low on at which the rule is true of the runs of a record, in the order in which they finish
-abbrev pub TrueOfRanks : List ℕ → Rule → List ℕ → RunTable → Order → ℕ → RunSet → Type 0
-TrueOfRanks file x wanted t o low s =
+abbrev pub TrueOfRanks : Bool → List ℕ → Rule → List ℕ → RunTable → Order → ℕ → RunSet → Type 0
+TrueOfRanks stop file x wanted t o low s =
     (log : List ℕ) (u : Trace) → Accepted log u → t ≡ recordOf u .runs → OrderHeld (orderTo (u .runs)) (u .lines) o → WantedIn u file wanted
-    → TrueAmong (rankModel u) (formulaOf file x) low (o .count) s
+    → TrueUntil stop (rankModel u) (formulaOf file x) low (o .count) s

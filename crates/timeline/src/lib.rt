@@ -2,20 +2,23 @@
 //
 // `judge_all` evaluates a rule for all moments of a record's log: the moments at which it is true, its truth before the first run
 // finishes, and how many runs are finished by each line. `verdict_at` reads the verdict of a line off these. A begin line changes no
-// finished run, so its verdict is that of the line before. `judge_last` evaluates the rule at the last line's moment only.
+// finished run, so its verdict is that of the line before. `judge_last` evaluates the rule at the last line's moment only, and
+// `first_failing` up to the first line that fails, by more and more runs.
 ghost use mathlib.Core.Path.{_≡_};
+ghost use mathlib.Core.Bool.{cond};
 ghost use Prim.Native.Nat.{_-_, _≤_};
 ghost use lib.ListN.{length, getD};
 ghost use Rattle.lists.specs.Limits.{maxRuns, maxLines};
 ghost use Rattle.trace.specs.Record.{Valid};
 ghost use Rattle.rules.specs.Rules.{formulaOf, Taken};
+ghost use Rattle.logic.specs.declared.Verdict.the-variants.{Holds, Fails};
 ghost use Rattle.logic.specs.Model.{Model};
 ghost use Rattle.row_table.specs.Truth.{truth};
 ghost use Rattle.row_table.specs.Rows.{tableWords, RowsOf};
 ghost use Rattle.rows.specs.Values.{Wanted};
 ghost use Rattle.rows.specs.ByRank.{OrderFits};
 ghost use Rattle.timeline.specs.Root.{noRuns, Shaped, TrueAmong, TrueOfRanks};
-ghost use Rattle.timeline.specs.AllLines.{truthAfter, verdictAt, JudgesFrom, JudgesAll, JudgesLast};
+ghost use Rattle.timeline.specs.AllLines.{truthAfter, verdictAt, FitsRuns, JudgesFrom, JudgesAll, JudgesLast, FirstFails, FindsFailing};
 use logic::Verdict;
 use moments::Bindings;
 use moments::Rank;
@@ -27,6 +30,8 @@ use rules::VARIABLES;
 use sets::RunSet;
 use trace::Record;
 use trace::RunTable;
+
+mod search;
 
 // The moments at which a rule is true, whether it is true before the first of them, and how many runs are finished by each line. What
 // `verdict_at` reads off it is promised.
@@ -103,24 +108,25 @@ fn ranked_moments(
     t: RunTable,
     o: Order,
     line: usize,
+    stop: bool,
 ) -> RunSet
     requires { ⌜ Taken (now file) rule ⌝ }
     requires { ⌜ Shaped (now file) rule (now heights) (now frees) ⌝ }
     requires { ⌜ OrderFits t o × Wanted (now wanted) (rule .labels) ⌝ }
     requires { ⌜ (line ≤ maxLines) × (getD (o .done) line 0 ≤ maxRuns) ⌝ }
-    ensures { λ s. ⌜ TrueOfRanks (now (file .entry)) rule (now (wanted .entry)) t o (getD (o .done) line 0 - 1) s ⌝ }
+    ensures { λ s. ⌜ TrueOfRanks stop (now (file .entry)) rule (now (wanted .entry)) t o (getD (o .done) line 0 - 1) s ⌝ }
 {
     let low = moment_of(o.done[line] as usize);
     let mut table = [0u64; TABLE_WORDS];
     rows::fill_rows(t, o, wanted, rule.labels, &mut table);
-    true_moments(file, rule, heights, frees, &table, o.count, low, o.count)
+    search::true_until(file, rule, heights, frees, &table, low, o.count, stop)
 }
 
-// Judges the lines from `line` on of the log that left a record.
-fn judge_from(file: &[u8], rule: Rule, r: Record, line: usize) -> Timeline
+// Judges the lines from `line` on of the log that left a record: all of them, unless it may stop at the first that fails.
+fn judge_from(file: &[u8], rule: Rule, r: Record, line: usize, stop: bool) -> Timeline
     requires { ⌜ Taken (now file) rule ⌝ }
     requires { ⌜ Valid r × (line ≤ maxLines) ⌝ }
-    ensures { λ y. ⌜ JudgesFrom (now (file .entry)) rule r line y ⌝ }
+    ensures { λ y. ⌜ JudgesFrom (now (file .entry)) rule r line stop y ⌝ }
 {
     let runs = r.runs;
     let labels = r.labels;
@@ -130,7 +136,7 @@ fn judge_from(file: &[u8], rule: Rule, r: Record, line: usize) -> Timeline
     let frees = shape::free_variables(file, rule.nodes, rule.count);
     let wanted = logic::shown::wanted_numbers(file, rule.labels, labels);
     let first = before_first(file, rule, &heights, &frees);
-    let moments = ranked_moments(file, rule, &heights, &frees, &wanted, runs, o, line);
+    let moments = ranked_moments(file, rule, &heights, &frees, &wanted, runs, o, line, stop);
     let done = o.done;
     Timeline {
         moments: moments,
@@ -145,7 +151,7 @@ pub fn judge_all(file: &[u8], rule: Rule, r: Record) -> Timeline
     requires { ⌜ Valid r ⌝ }
     ensures { λ y. ⌜ JudgesAll (now (file .entry)) rule r y ⌝ }
 {
-    judge_from(file, rule, r, 0)
+    judge_from(file, rule, r, 0, false)
 }
 
 // The truth value once n runs are finished.
@@ -180,6 +186,60 @@ pub fn judge_last(file: &[u8], rule: Rule, r: Record) -> Verdict
     ensures { λ w. ⌜ JudgesLast (now (file .entry)) rule r w ⌝ }
 {
     let last = r.lines.0 as usize;
-    let x = judge_from(file, rule, r, last);
+    let x = judge_from(file, rule, r, last, false);
     verdict_at(x, last)
+}
+
+// Whether the rule of a file holds while no run is finished, as with line 1.
+fn holds_of_none(file: &[u8], rule: Rule) -> bool
+    requires { ⌜ Taken (now file) rule ⌝ }
+    ensures { λ b. ⌜ b ≡ truth noRuns (formulaOf (now (file .entry)) rule) (λ _. 0) 0 ⌝ }
+{
+    let heights = shape::heights(file, rule.nodes, rule.count);
+    let frees = shape::free_variables(file, rule.nodes, rule.count);
+    before_first(file, rule, &heights, &frees)
+}
+
+// Whether a verdict is that the rule fails.
+fn fails(v: Verdict) -> bool
+    ensures { λ b. ⌜ v ≡ cond b Fails Holds ⌝ }
+{
+    match v {
+        Verdict::Holds => false,
+        Verdict::Fails => true,
+    }
+}
+
+// The first of the lines that fails, 0 where none does.
+fn first_fails(x: Timeline, lines: usize) -> usize
+    requires { ⌜ FitsRuns x ⌝ }
+    requires { ⌜ lines ≤ maxLines ⌝ }
+    ensures { λ n. ⌜ FirstFails x lines n ⌝ }
+{
+    let mut k: usize = 0;
+    while k < lines {
+        let v = verdict_at(x, k + 1);
+        if fails(v) {
+            return k + 1;
+        }
+        k += 1;
+    }
+    0
+}
+
+// The first line that fails of the log that left a record, 0 where none does.
+pub fn first_failing(file: &[u8], rule: Rule, r: Record) -> usize
+    requires { ⌜ Taken (now file) rule ⌝ }
+    requires { ⌜ Valid r ⌝ }
+    ensures { λ n. ⌜ FindsFailing (now (file .entry)) rule r n ⌝ }
+{
+    let lines = r.lines.0 as usize;
+    if lines == 0 {
+        return 0;
+    }
+    if !holds_of_none(file, rule) {
+        return 1;
+    }
+    let x = judge_from(file, rule, r, 0, true);
+    first_fails(x, lines)
 }

@@ -4,11 +4,11 @@
 use Prim.Native.Nat.{ℕ, zero, suc, _+_, _-_, _<_, _≤_}
 use mathlib.Core.Path.{_≡_, refl, ap, sym, _∙_, subst}
 use mathlib.Core.Bool.{cond, _||_}
-use mathlib.Core.List.{List, [], _∷_, _++_}
+use mathlib.Core.List.{List, [], _∷_, _++_, append-assoc}
 use native.Mathlib.Omega.{arith}
 use lib.Dec.{eqb, ltb}
-use lib.ListN.{length, take, drop, set, length-take}
-use lib.Seq.{take-add, take-take, take-nil, drop-nil}
+use lib.ListN.{length, take, drop, set, length-take, take-append-drop}
+use lib.Seq.{take-add, take-take, take-all, take-append-add, take-nil, drop-nil}
 use borrow.Author.Tests.{lt-ltb, le-ltb}
 use Rattle.lists.proofs.Cases.{either-lt}
 use Rattle.lines.specs.Event.{faulty}
@@ -24,16 +24,22 @@ use Rattle.pairs.specs.declared.Layout.{Layout}
 use Rattle.pairs.specs.Layout.{workSize}
 use Rattle.pairs.specs.Pairs.{workOf}
 use Rattle.rules.specs.declared.Rule.{Rule}
+use Rattle.rules.specs.declared.RuleRead.{RuleRead}
+use Rattle.rules.specs.declared.RuleRead.the-variants as RuleRead
 use Rattle.rules.specs.Rules.{ruleOf, formulaOf}
 use Rattle.logic.specs.Verdict.{verdictByte, verdictOf}
 use Rattle.reading.specs.declared.Ending.the-variants.{Refused}
 use Rattle.single.specs.Line.{withRule}
 use Rattle.reading.specs.Reading.{ended}
+use Rattle.whole_log.specs.declared.Mode.{Mode}
+use Rattle.whole_log.specs.declared.Mode.the-variants.{FirstFailure, Full}
 use Rattle.whole_log.specs.Log.{notRead, linesFrom, logOf}
+use Rattle.whole_log.specs.Part.{readPart, EndsFailing, ToFailure, shortest, all}
 use Rattle.whole_log.specs.Repeated.{Result}
 use Rattle.reading.specs.Turns.{lineBetween}
 use Rattle.trace.proofs.Taken.{by-answer, line-faulty}
 use Rattle.whole_log.proofs.Lines.{from-taken, from-refused}
+use Rattle.whole_log.proofs.Part.{part-unruled, part-of, one-part}
 
 -- ── what is looked at ──
 drop-take : (p m : ℕ) (l : List ℕ) → drop p (take m l) ≡ take (m - p) (drop p l)
@@ -125,3 +131,59 @@ unfolding logOf
 first-bytes-decide lay file log w out =
     ap (λ (f : Rule → Result). cond (ltb (length w) (workSize lay) || ltb (length out) 256) (notRead 20, w, out) (withRule (ruleOf file) (λ n. (notRead n, w, out)) f))
     (λ i x. same-from log lay file x w (suc (length log)) 0 noTrace out (omega arith) (omega arith) no-bytes i)
+
+-- ── the part that is read ──
+take-front : (n : ℕ) (p r : List ℕ) → length p ≤ n → take n (p ++ r) ≡ p ++ take (n - length p) r
+take-front n p r h = let z : n ≡ length p + (n - length p) = omega arith in ap (λ (k : ℕ). take k (p ++ r)) z ∙ take-append-add p r (n - length p)
+
+module _ (file : List ℕ) (x : Rule) (log : List ℕ) where
+  abbrev short : List ℕ
+  short = take 8192 log
+
+  -- a front of the cut log is one of the log
+  of-cut : (p : List ℕ) → EndsFailing file x short p → EndsFailing file x log p
+  of-cut p q =
+      record {
+        rest = q .rest ++ drop 8192 log;
+        divides = sym (take-append-drop 8192 log) ∙ (ap (λ (l : List ℕ). l ++ drop 8192 log) (q .divides) ∙ append-assoc p (q .rest) (drop 8192 log));
+        some-line = q .some-line;
+        trace = q .trace;
+        accepted = q .accepted;
+        fails = q .fails;
+      }
+
+  -- and an accepted front of the log is not cut
+  low : (p : List ℕ) (q : EndsFailing file x log p) → length p ≤ 8192
+  low p q = omega (arith, accepted-short p (q .trace) (q .accepted))
+
+  to-cut : (p : List ℕ) → EndsFailing file x log p → EndsFailing file x short p
+  to-cut p q =
+      record {
+        rest = take (8192 - length p) (q .rest);
+        divides = ap (take 8192) (q .divides) ∙ take-front 8192 p (q .rest) (low p q);
+        some-line = q .some-line;
+        trace = q .trace;
+        accepted = q .accepted;
+        fails = q .fails;
+      }
+
+  cut-failing : (p : List ℕ) → ToFailure file x log p → ToFailure file x short (take 8192 p)
+  cut-failing p (shortest q least) =
+      subst (ToFailure file x short) (sym (take-all 8192 p (low p q))) (shortest (to-cut p q) (λ r s. least r (of-cut r s)))
+  cut-failing p (all e none) = all (ap (take 8192) e) (λ r s. none r (of-cut r s))
+
+-- both parts are cut alike
+pub part-cut : (mode : Mode) (file log : List ℕ) → readPart mode file (take 8192 log) ≡ take 8192 (readPart mode file log)
+unfolding readPart
+part-cut Full file log = refl
+part-cut FirstFailure file log = by-rule (ruleOf file) refl
+  where
+    by-rule : (q : RuleRead) → ruleOf file ≡ q → readPart FirstFailure file (take 8192 log) ≡ take 8192 (readPart FirstFailure file log)
+    by-rule (RuleRead.Refused c) e = part-unruled FirstFailure file (take 8192 log) c e ∙ ap (take 8192) (sym (part-unruled FirstFailure file log c e))
+    by-rule (RuleRead.Rule x) e =
+        one-part FirstFailure file x (take 8192 log) _ _ (part-of file x e FirstFailure (take 8192 log)) (cut-failing file x log _ (part-of file x e FirstFailure log))
+
+pub first-bytes-decide-part : (lay : Layout) (mode : Mode) (file log w out : List ℕ)
+    → logOf lay file (readPart mode file log) w out ≡ logOf lay file (readPart mode file (take 8192 log)) w out
+first-bytes-decide-part lay mode file log w out =
+    first-bytes-decide lay file (readPart mode file log) w out ∙ ap (λ (p : List ℕ). logOf lay file p w out) (sym (part-cut mode file log))

@@ -3,6 +3,9 @@ pub mod Repeated
 pub mod Prefixes
 pub mod LogMeans
 pub mod WholeLog
+pub mod Part
+pub mod EndOf
+pub mod Failing
 pub mod Verdicts
 pub mod LogCall
 pub mod Cut

@@ -7,9 +7,9 @@ use native.Mathlib.Omega.{arith}
 use lib.ListN.{length, getD, take}
 use lib.Seq.{length-take-le}
 use borrow.Author.Tests.{le-ltb}
-use Rattle.lines.specs.Log.{linesOf}
+use Rattle.lines.specs.Log.{linesOf, flat}
 use Rattle.trace.specs.Trace.{Trace, next, refused, noTrace, steps, Accepted}
-use Rattle.trace.proofs.Grown.{no-bytes, flat, flat-lines}
+use Rattle.trace.proofs.Grown.{no-bytes, flat-lines}
 use Rattle.trace.proofs.Bounds.{accepted-bounded}
 use Rattle.pairs.specs.declared.Layout.{Layout}
 use Rattle.pairs.specs.Layout.{workSize}

@@ -1,4 +1,5 @@
 pub mod Log
+pub mod Part
 pub mod Written
 pub mod Repeated
 pub mod Cases

@@ -14,7 +14,7 @@ use generate::random::Random;
 use generate::rules::legal_rule;
 use reference::rule::{read_rule, BEFORE, HAS_LABEL, INCLUDES};
 use reference::typed::rule_file;
-use scene_log::{check_log, Layout, LogRefused, VERDICT_BYTES, WORK_BYTES};
+use scene_log::{check_log, Layout, LogRefused, Mode, VERDICT_BYTES, WORK_BYTES};
 use std::collections::BTreeSet;
 
 const PLAIN: (&str, Baseline) = ("plain", plain::verdicts);
@@ -23,7 +23,8 @@ const PUBLISHED: (&str, Baseline) = ("published", published::verdicts);
 /// The verdicts of the accepted lines by the proved check; the rule is legal.
 fn proved_verdicts(rule: &[u8], log: &[u8]) -> Vec<bool> {
     let (mut work, mut verdicts) = (vec![0; WORK_BYTES], vec![0; VERDICT_BYTES]);
-    let lines = check_log(Layout::Square, rule, log, &mut work, &mut verdicts).unwrap_or_else(LogRefused::lines);
+    let answer = check_log(Layout::Square, Mode::Full, rule, log, &mut work, &mut verdicts);
+    let lines = answer.unwrap_or_else(LogRefused::lines);
     verdicts[..usize::from(lines)].iter().map(|verdict| *verdict == 1).collect()
 }
 

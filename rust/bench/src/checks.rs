@@ -3,7 +3,7 @@
 
 use crate::logs::MAX_RUNS;
 use crate::table::{seconds, short, Number, Row};
-use crate::{layouts, reading, relating, slips, typed};
+use crate::{layouts, modes, reading, relating, slips, typed};
 use Limit::{AtLeast, AtMost, NoneDown, NoneUp};
 
 /// The whole-log call and the single-line call, as multiples of the whole-log call with the two-node rule; and the single-line
@@ -68,14 +68,15 @@ fn unlimited((what, limit, number, form): Asked) -> Asked {
     (what, if limit.is_upper() { NoneUp } else { NoneDown }, number, form)
 }
 
-/// Prints a line for each requirement, over the rows of full logs, of reading, of typed rules, of slips, of both layouts
-/// and of relating two runs. Answers whether none failed.
+/// Prints a line for each requirement, over the rows of full logs, of reading, of typed rules, of slips, of both
+/// layouts, of both modes and of relating two runs. Answers whether none failed.
 pub fn print_checks(
     rows: &[Row],
     reading: &reading::Rows,
     typed: Option<&typed::Rows>,
     slips: &[slips::Row],
     layouts: &[layouts::Row],
+    modes: &modes::Rows,
     relating: &[relating::Row],
 ) -> bool {
     println!("\n## Required\n");
@@ -91,6 +92,7 @@ pub fn print_checks(
         typed::print_checks(typed),
         slips::print_checks(slips),
         layouts::print_checks(layouts),
+        modes.print_checks(),
         relating::print_checks(relating),
     ];
     passed.iter().all(|passed| *passed)

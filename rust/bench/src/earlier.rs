@@ -1,13 +1,15 @@
 //! An earlier version of the library, loaded beside the present one, so that both are measured in one run.
 //!
 //! SCENE_LOG_EARLIER in the environment names a shared object made of its archive; `scripts/earlier` makes one. Where
-//! its calls take no layout of a work area, as in versions that knew the square one alone, SCENE_LOG_EARLIER_NO_LAYOUT
-//! is set too, to anything, and they are called without. Both versions read logs in the square layout.
+//! its calls take a layout of a work area and no mode, as in versions that always read a log in full,
+//! SCENE_LOG_EARLIER_NO_MODE is set too, to anything, and they are called without. Where they take neither, as in
+//! versions that knew the square layout alone, SCENE_LOG_EARLIER_NO_LAYOUT is set. Both versions read logs in full, in
+//! the square layout.
 //!
 //! The present version is loaded in the same way: where code stands in memory changes its time by up to a tenth, and
 //! linked into this program it stands elsewhere with every change of the program.
 
-use scene_log::{Layout, VERDICT_BYTES, WORK_BYTES};
+use scene_log::{Layout, Mode, VERDICT_BYTES, WORK_BYTES};
 use std::ffi::{c_char, c_int, c_void, CStr, CString};
 use std::os::unix::ffi::OsStrExt;
 use std::path::{Path, PathBuf};
@@ -16,6 +18,7 @@ use std::sync::atomic::{AtomicU32, Ordering};
 use std::{env, fs, mem, process, ptr};
 
 pub const VARIABLE: &str = "SCENE_LOG_EARLIER";
+const NO_MODE: &str = "SCENE_LOG_EARLIER_NO_MODE";
 const NO_LAYOUT: &str = "SCENE_LOG_EARLIER_NO_LAYOUT";
 
 const RTLD_LOCAL: c_int = 0;
@@ -29,20 +32,36 @@ extern "C" {
 
 type Relate = unsafe extern "C" fn(*const u8, usize, u32, u32) -> u32;
 type CheckLog =
+    unsafe extern "C" fn(u32, u32, *const u8, usize, *const u8, usize, *mut u8, usize, *mut u8, usize) -> u32;
+type CheckLogWithoutMode =
     unsafe extern "C" fn(u32, *const u8, usize, *const u8, usize, *mut u8, usize, *mut u8, usize) -> u32;
 type CheckLogWithoutLayout =
     unsafe extern "C" fn(*const u8, usize, *const u8, usize, *mut u8, usize, *mut u8, usize) -> u32;
 
-/// What the calls of a version take that are lent a work area.
-#[derive(Clone, Copy, PartialEq)]
+/// What the call of a version takes that reads a whole log: a layout and a mode, a layout alone, or neither.
+#[derive(Clone, Copy, PartialEq, Debug)]
 enum Takes {
-    Layout,
+    Mode,
+    NoMode,
     NoLayout,
+}
+
+impl Takes {
+    /// What is said of the earlier library in the environment.
+    fn named() -> Takes {
+        let is_set = |variable: &str| env::var_os(variable).is_some();
+        match (is_set(NO_LAYOUT), is_set(NO_MODE)) {
+            (true, _) => Takes::NoLayout,
+            (false, true) => Takes::NoMode,
+            (false, false) => Takes::Mode,
+        }
+    }
 }
 
 /// The call that reads a whole log, as a version has it.
 enum ReadLog {
-    WithLayout(CheckLog),
+    WithMode(CheckLog),
+    WithoutMode(CheckLogWithoutMode),
     WithoutLayout(CheckLogWithoutLayout),
 }
 
@@ -58,11 +77,12 @@ impl Libraries {
         let Some(path) = env::var_os(VARIABLE) else {
             return Ok(None);
         };
-        let takes = if env::var_os(NO_LAYOUT).is_some() { Takes::NoLayout } else { Takes::Layout };
-        let earlier = Library::load(Path::new(&path), takes).map_err(|why| format!("{VARIABLE}: {why}"))?;
+        let earlier = Library::load(Path::new(&path), Takes::named()).map_err(|why| format!("{VARIABLE}: {why}"))?;
         if !earlier.is_called_right() {
-            let what = if takes == Takes::Layout { "take no layout, set" } else { "take a layout, unset" };
-            return Err(format!("{VARIABLE}: the calls are other ones; if they {what} {NO_LAYOUT}"));
+            return Err(format!(
+                "{VARIABLE}: the calls are other ones; set {NO_MODE} if they take a layout and no mode, {NO_LAYOUT} if \
+                 they take neither, and none of the two if they take both"
+            ));
         }
         Ok(Some(Libraries { now: Library::present()?, earlier }))
     }
@@ -86,7 +106,7 @@ impl Library {
         if !output.status.success() {
             return Err(format!("gcc makes no shared object: {}", String::from_utf8_lossy(&output.stderr)));
         }
-        let library = Library::load(&object, Takes::Layout);
+        let library = Library::load(&object, Takes::Mode);
         fs::remove_file(&object).map_err(|error| error.to_string())?;
         library
     }
@@ -103,10 +123,12 @@ impl Library {
         }
         let relate = call_of(library, c"scene_log_relate")?;
         let check_log = call_of(library, c"scene_log_check_log")?;
-        // Safe: every version that has these calls has them with these arguments, and with a layout or without.
+        // Safe: every version that has these calls has them with these arguments, and with a layout and a mode, with a
+        // layout alone, or with neither.
         let check_log = unsafe {
             match takes {
-                Takes::Layout => ReadLog::WithLayout(mem::transmute::<*mut c_void, CheckLog>(check_log)),
+                Takes::Mode => ReadLog::WithMode(mem::transmute::<*mut c_void, CheckLog>(check_log)),
+                Takes::NoMode => ReadLog::WithoutMode(mem::transmute::<*mut c_void, CheckLogWithoutMode>(check_log)),
                 Takes::NoLayout => {
                     ReadLog::WithoutLayout(mem::transmute::<*mut c_void, CheckLogWithoutLayout>(check_log))
                 }
@@ -122,7 +144,8 @@ impl Library {
         unsafe { (self.relate)(record.as_ptr(), record.len(), first, second) }
     }
 
-    /// The answer of reading a whole log in the square layout: the number of its lines, or a refusal, from 65,536 on.
+    /// The answer of reading a whole log in full, in the square layout: the number of its lines, or a refusal, from
+    /// 65,536 on.
     pub fn check_log(&self, rule: &[u8], log: &[u8], work: &mut [u8], verdicts: &mut [u8]) -> u32 {
         let (work, verdicts) = ((work.as_mut_ptr(), work.len()), (verdicts.as_mut_ptr(), verdicts.len()));
         // Safe: each pointer comes with the length of its own slice, and `&mut` slices do not overlap others.
@@ -137,9 +160,12 @@ impl Library {
         (work, work_length): (*mut u8, usize),
         (verdicts, verdicts_length): (*mut u8, usize),
     ) -> u32 {
+        let (layout, mode) = (Layout::Square.number(), Mode::Full.number());
         match self.check_log {
-            ReadLog::WithLayout(call) => {
-                let layout = Layout::Square.number();
+            ReadLog::WithMode(call) => {
+                call(layout, mode, rule, rule_length, log, log_length, work, work_length, verdicts, verdicts_length)
+            }
+            ReadLog::WithoutMode(call) => {
                 call(layout, rule, rule_length, log, log_length, work, work_length, verdicts, verdicts_length)
             }
             ReadLog::WithoutLayout(call) => {
@@ -148,9 +174,9 @@ impl Library {
         }
     }
 
-    /// Whether a layout is handed over exactly if the library's calls take one. A rule of no bytes is refused with 1. A
-    /// library whose calls are others has the address in place of a length, which is too short, or in place of a layout,
-    /// which it is not: 20.
+    /// Whether a layout and a mode are handed over exactly if the library's calls take them. A rule of no bytes is
+    /// refused with 1. A library whose calls are others has an address, or the length of another buffer, in place of
+    /// the length of the work area, which is too short, or in place of a layout, which it is not: 20.
     fn is_called_right(&self) -> bool {
         let nowhere: *mut u8 = ptr::without_provenance_mut(8);
         // Safe: neither refusal looks at a byte of a buffer.
@@ -210,7 +236,9 @@ pub mod tests {
     }
 
     const RELATE: &str = "unsigned scene_log_relate(const char *r, unsigned long a, unsigned x, unsigned y)";
-    const CHECK_LOG: &str = "unsigned scene_log_check_log(unsigned k, const char *r, unsigned long a, \
+    const CHECK_LOG: &str = "unsigned scene_log_check_log(unsigned k, unsigned m, const char *r, unsigned long a, \
+        const char *l, unsigned long b, char *w, unsigned long c, char *v, unsigned long d)";
+    const CHECK_LOG_WITHOUT_MODE: &str = "unsigned scene_log_check_log(unsigned k, const char *r, unsigned long a, \
         const char *l, unsigned long b, char *w, unsigned long c, char *v, unsigned long d)";
     const CHECK_LOG_WITHOUT_LAYOUT: &str = "unsigned scene_log_check_log(const char *r, unsigned long a, \
         const char *l, unsigned long b, char *w, unsigned long c, char *v, unsigned long d)";
@@ -218,39 +246,45 @@ pub mod tests {
     /// A library whose calls answer these numbers and write nothing.
     pub fn library_that_answers(relate: u32, check_log: u32) -> Library {
         let text = format!("{RELATE} {{ return {relate}; }}\n{CHECK_LOG} {{ return {check_log}; }}");
-        library_of(&text, Takes::Layout).unwrap()
+        library_of(&text, Takes::Mode).unwrap()
     }
 
-    /// What is handed over arrives: a rule of 1 byte, a log of 2, a work area of 3, 4 verdict bytes; and the square
-    /// layout where one is taken.
+    /// The calls that a version can have.
+    const CHECK_LOGS: [(&str, Takes); 3] = [
+        (CHECK_LOG, Takes::Mode),
+        (CHECK_LOG_WITHOUT_MODE, Takes::NoMode),
+        (CHECK_LOG_WITHOUT_LAYOUT, Takes::NoLayout),
+    ];
+
+    /// What is handed over arrives: a rule of 1 byte, a log of 2, a work area of 3, 4 verdict bytes; the square layout
+    /// and the full mode where they are taken.
     #[test]
-    fn a_library_is_called_with_a_layout_or_without() {
+    fn a_library_is_called_with_a_layout_and_a_mode_or_without() {
         let body = "{ w[2] = *r; v[3] = l[1]; return a + 10 * b + 100 * c + 1000 * d";
-        for (head, layout, takes) in [
-            (CHECK_LOG, "+ 10000 * (k + 1)", Takes::Layout),
-            (CHECK_LOG_WITHOUT_LAYOUT, "+ 20000", Takes::NoLayout),
-        ] {
-            let library = library_of(&format!("{RELATE} {{ return 1; }}\n{head} {body} {layout}; }}"), takes).unwrap();
+        for (head, takes) in CHECK_LOGS {
+            let (named, expected) = match takes {
+                Takes::Mode => ("+ 10000 * (10 * k + m)", 14_321),
+                Takes::NoMode => ("+ 20000 * (k + 1)", 24_321),
+                Takes::NoLayout => ("+ 30000", 34_321),
+            };
+            let library = library_of(&format!("{RELATE} {{ return 1; }}\n{head} {body} {named}; }}"), takes).unwrap();
             let (mut work, mut verdicts) = ([7; 3], [7; 4]);
-            let answer = library.check_log(&[5], &[0, 6], &mut work, &mut verdicts);
-            assert_eq!(answer, if takes == Takes::Layout { 14_321 } else { 24_321 });
+            assert_eq!(library.check_log(&[5], &[0, 6], &mut work, &mut verdicts), expected);
             assert_eq!((work, verdicts), ([7, 7, 5], [7, 7, 7, 6]));
         }
     }
 
-    /// Two libraries that refuse short buffers with 20, and then a rule of no bytes with 1.
+    /// Three libraries that refuse short buffers with 20, and then a rule of no bytes with 1.
     #[test]
     fn a_library_that_is_called_wrong_is_noticed() {
-        let refusals = "if (c < 16384 || d < 256) return 20 << 16; return a < 1 ? 1 << 16 : 0; }";
-        let with_layout = format!("{RELATE} {{ return 1; }}\n{CHECK_LOG} {{ if (k > 1) return 20 << 16; {refusals}");
-        let without = format!("{RELATE} {{ return 1; }}\n{CHECK_LOG_WITHOUT_LAYOUT} {{ {refusals}");
-        for (text, takes, is_right) in [
-            (&with_layout, Takes::Layout, true),
-            (&with_layout, Takes::NoLayout, false),
-            (&without, Takes::Layout, false),
-            (&without, Takes::NoLayout, true),
-        ] {
-            assert_eq!(library_of(text, takes).unwrap().is_called_right(), is_right, "{text}");
+        for (head, has) in CHECK_LOGS {
+            let layout = if has == Takes::NoLayout { "" } else { "if (k > 1) return 20 << 16;" };
+            let refusals = "if (c < 16384 || d < 256) return 20 << 16; return a < 1 ? 1 << 16 : 0;";
+            let text = format!("{RELATE} {{ return 1; }}\n{head} {{ {layout} {refusals} }}");
+            for (_, takes) in CHECK_LOGS {
+                let is_right = library_of(&text, takes).unwrap().is_called_right();
+                assert_eq!(is_right, takes == has, "{has:?} called as {takes:?}");
+            }
         }
     }
 
@@ -269,7 +303,8 @@ pub mod tests {
             let mut left = (vec![7; WORK_BYTES], vec![7; VERDICT_BYTES]);
             let mut left_now = left.clone();
             assert_eq!(library.check_log(&rule, &log.bytes, &mut left.0, &mut left.1), 18);
-            let answer = scene_log::check_log(Layout::Square, &rule, &log.bytes, &mut left_now.0, &mut left_now.1);
+            let (layout, mode) = (Layout::Square, Mode::Full);
+            let answer = scene_log::check_log(layout, mode, &rule, &log.bytes, &mut left_now.0, &mut left_now.1);
             assert_eq!(answer, Ok(18));
             assert!(left == left_now);
             // A line without LF as the 19th, and the number of its refusal.
@@ -281,12 +316,12 @@ pub mod tests {
     #[test]
     fn what_is_no_library_is_named_with_what_is_wrong() {
         let message = |library: Result<Library, String>| library.err().expect("no library");
-        let load = |path: &str| Library::load(Path::new(path), Takes::Layout);
+        let load = |path: &str| Library::load(Path::new(path), Takes::Mode);
         assert!(message(load("no/such.so")).starts_with("no/such.so: "));
         let text = concat!(env!("CARGO_MANIFEST_DIR"), "/Cargo.toml");
         assert!(message(load(text)).contains("bench/Cargo.toml: "));
-        assert!(message(library_of("int other;", Takes::Layout)).contains("scene_log_relate"));
+        assert!(message(library_of("int other;", Takes::Mode)).contains("scene_log_relate"));
         let relate_alone = format!("{RELATE} {{ return 1; }}");
-        assert!(message(library_of(&relate_alone, Takes::Layout)).contains("scene_log_check_log"));
+        assert!(message(library_of(&relate_alone, Takes::Mode)).contains("scene_log_check_log"));
     }
 }

@@ -6,7 +6,8 @@ use crate::measure::{in_turns, seconds_of, timed_in_turns};
 use crate::rules::two_nodes;
 use crate::table::{seconds, short, Number};
 use crate::LABELS;
-use scene_log::{check_line, check_log_record, start, Check, Layout, LogRefused, RECORD_BYTES, VERDICT_BYTES, WORK_BYTES};
+use scene_log::{check_line, check_log_record, start, Check, Layout, LogRefused, Mode};
+use scene_log::{RECORD_BYTES, VERDICT_BYTES, WORK_BYTES};
 use std::cell::RefCell;
 use std::hint::black_box;
 
@@ -51,10 +52,10 @@ impl Buffers {
     }
 }
 
-/// Reads a whole log: what is answered.
+/// Reads a whole log in full: what is answered.
 fn read(layout: Layout, rule: &[u8], log: &[u8], buffers: &mut Buffers) -> Result<u16, LogRefused> {
     let work = &mut buffers.work[..layout.work_bytes()];
-    check_log_record(layout, rule, log, &mut buffers.record, work, &mut buffers.verdicts)
+    check_log_record(layout, Mode::Full, rule, log, &mut buffers.record, work, &mut buffers.verdicts)
 }
 
 /// The times of reading a whole log with the two-node rule. The answers, verdicts and records must be the same.
@@ -69,7 +70,7 @@ fn whole_log(log: &Log) -> Row {
     let call = |layout: Layout| {
         let _ = black_box(read(layout, &rule, &log.bytes, &mut buffers.borrow_mut()));
     };
-    let (square, half) = in_turns(|| call(Layout::Square), || call(Layout::Half));
+    let [square, half] = in_turns([&|| call(Layout::Square), &|| call(Layout::Half)]);
     Row { call: WHOLE_LOG, log: log.kind, runs: log.runs, square, half }
 }
 
@@ -78,7 +79,7 @@ fn one_line(call: &'static str, log: &Log, number: usize) -> Row {
     let rule = two_nodes().file;
     let lines: Vec<&[u8]> = log.bytes.split_inclusive(|byte| *byte == b'\n').collect();
     let (line, before) = (lines[number], lines[..number].concat());
-    let checks = Layout::ALL.map(|layout| Check::after_with_layout(layout, &rule, &before).0);
+    let checks = Layout::ALL.map(|layout| Check::after_with(layout, Mode::Full, &rule, &before).0);
     let taken = checks.clone().map(|mut check| (check.line(&rule, line), check.record));
     assert!(taken[0].0.is_ok() && taken[0] == taken[1], "the layouts differ on {}", log.kind);
     let buffers = Buffers::new();
@@ -91,7 +92,7 @@ fn one_line(call: &'static str, log: &Log, number: usize) -> Row {
             let _ = black_box(check_line(check.layout, &rule, record, work, line));
         })
     };
-    let (square, half) = timed_in_turns(|| time(&checks[0]), || time(&checks[1]));
+    let [square, half] = timed_in_turns([&|| time(&checks[0]), &|| time(&checks[1])]);
     Row { call, log: log.kind, runs: log.runs, square, half }
 }
 
@@ -105,7 +106,7 @@ fn starting() -> Row {
             black_box(started).expect("both are long enough");
         }
     };
-    let (square, half) = in_turns(|| starts(Layout::Square), || starts(Layout::Half));
+    let [square, half] = in_turns([&|| starts(Layout::Square), &|| starts(Layout::Half)]);
     Row { call: START, log: "–", runs: 0, square: square / STARTS as f64, half: half / STARTS as f64 }
 }
 

@@ -10,6 +10,8 @@
 //!   length, 1,000 to 16,000 lines there, at most 256 here.
 //! - "kept": two phases, mixed at random inside a phase. Every run has a label of the rule or OTHER, and the rule holds at
 //!   every line, so that no evaluator finds anything early.
+//! - "carried on": a section 6 log, or one whose last run has the label LAST, with runs of other labels behind it. So
+//!   the first line with which the rule fails can be in the middle of a full log.
 //! - "few ids" and "fresh ids": the same lines but for their ids, which all have three digits. Begins and ends are
 //!   mixed at random, and no more runs are open at a time than there are few ids.
 //!
@@ -17,7 +19,7 @@
 
 use crate::rules::two_nodes;
 use generate::random::Random;
-use scene_log::{check_log_record, Layout, RECORD_BYTES, VERDICT_BYTES, WORK_BYTES};
+use scene_log::{check_log_record, Layout, Mode, RECORD_BYTES, VERDICT_BYTES, WORK_BYTES};
 use std::fmt::Write;
 
 /// The most runs of a log.
@@ -36,7 +38,8 @@ impl Log {
     pub fn record(&self) -> Vec<u8> {
         let (mut record, mut work, mut verdicts) = (vec![0; RECORD_BYTES], vec![0; WORK_BYTES], vec![0; VERDICT_BYTES]);
         let rule = two_nodes().file;
-        let lines = check_log_record(Layout::Square, &rule, &self.bytes, &mut record, &mut work, &mut verdicts);
+        let (layout, mode) = (Layout::Square, Mode::Full);
+        let lines = check_log_record(layout, mode, &rule, &self.bytes, &mut record, &mut work, &mut verdicts);
         assert_eq!(lines.map(usize::from), Ok(2 * self.runs));
         record
     }
@@ -177,6 +180,12 @@ enum Last {
 
 /// The section 6 log of a property of figure 1 (1 to 4): the last lines break it.
 pub fn section_6_of_figure_1(property: usize, runs: usize) -> Log {
+    figure_1_broken(property, runs).log(SECTION_6)
+}
+
+const SECTION_6: &str = "section 6";
+
+fn figure_1_broken(property: usize, runs: usize) -> Writer {
     use Last::{Begin, End};
     let last: &[Last] = match property {
         // A DL_IMAGE inside the first of two BOOTs.
@@ -197,6 +206,10 @@ pub fn section_6_of_figure_1(property: usize, runs: usize) -> Log {
 /// The section 6 log of a property of section 3 (1 to 4). Properties 1, 2 and 4 are broken by runs with any labels, so here
 /// the runs before the last have the labels and the order that keep them.
 pub fn section_6_of_section_3(property: usize, runs: usize) -> Log {
+    section_3_broken(property, runs).log(SECTION_6)
+}
+
+fn section_3_broken(property: usize, runs: usize) -> Writer {
     use Last::{Begin, End};
     let mut writer = Writer::new(4);
     let last: &[Last] = match property {
@@ -236,14 +249,42 @@ fn ordered(writer: &mut Writer, runs: usize, ends: impl Fn(usize) -> usize) {
     }
 }
 
-fn break_rule(mut writer: Writer, last: &[Last]) -> Log {
+fn break_rule(mut writer: Writer, last: &[Last]) -> Writer {
     for line in last {
         match line {
             Last::Begin(label) => writer.begin(label),
             Last::End(place) => writer.end(*place),
         }
     }
-    writer.log("section 6")
+    writer
+}
+
+/// The label that one run of a log has, and no other.
+pub const LAST: &str = "LAST";
+
+/// Logs of so many runs of which the first `broken` break a property of figure 1, or of section 3, at their last line;
+/// and one whose last of these runs has the label LAST. That line has the number 2 × `broken`.
+pub fn figure_1_carried_on(property: usize, broken: usize, runs: usize) -> Log {
+    carried_on(figure_1_broken(property, broken), runs, &OTHERS, OPEN_LIMIT)
+}
+
+pub fn section_3_carried_on(property: usize, broken: usize, runs: usize) -> Log {
+    carried_on(section_3_broken(property, broken), runs, &OTHERS, OPEN_LIMIT)
+}
+
+pub fn last_carried_on(broken: usize, runs: usize, labels: &[&str]) -> Log {
+    let mut writer = Writer::new(8);
+    writer.mixed(broken - 1, labels, MAX_RUNS);
+    writer.begin(LAST);
+    writer.end(0);
+    carried_on(writer, runs, labels, MAX_RUNS)
+}
+
+/// Runs with these labels behind those that a log has, so many in all, with at most `limit` open at a time.
+fn carried_on(mut writer: Writer, runs: usize, labels: &[&str], limit: usize) -> Log {
+    let more = runs - writer.begun;
+    writer.mixed(more, labels, limit);
+    writer.log("carried on")
 }
 
 /// The "kept" log of a property of figure 1: every run of the first phase is before every run of the second.

@@ -2,8 +2,9 @@
 //!
 //! `cargo run --release -p bench` prints a table for each group of rules, the noise, and whether the times are as required.
 //! `--quick` stops at 32 runs; `--group NAME` measures one group: reading, figure1, section3, worst, typed, slips,
-//! layouts or earlier. SCENE_LOG_EARLIER in the environment names the earlier library of the last of them, and
-//! SCENE_LOG_EARLIER_NO_LAYOUT is set where the calls of that one take no layout of a work area.
+//! layouts, modes or earlier. SCENE_LOG_EARLIER in the environment names the earlier library of the last of them.
+//! SCENE_LOG_EARLIER_NO_MODE is set where the calls of that one take a layout of a work area and no mode, and
+//! SCENE_LOG_EARLIER_NO_LAYOUT where they take neither.
 //! Times differ between machines; the ratios much less. `docs/PERFORMANCE.md` says what each column is.
 
 #[cfg(test)]
@@ -15,6 +16,7 @@ mod earlier;
 mod layouts;
 mod logs;
 mod measure;
+mod modes;
 mod plain;
 mod published;
 mod reading;
@@ -64,7 +66,7 @@ fn all_kinds(property: usize) -> [Measured; 4] {
 }
 
 /// The names of the groups, as `--group` takes them, and their headings.
-const GROUPS: [(&str, &str); 8] = [
+const GROUPS: [(&str, &str); 9] = [
     (READING, "Reading"),
     ("figure1", "The properties of figure 1"),
     ("section3", "The properties of section 3"),
@@ -72,17 +74,19 @@ const GROUPS: [(&str, &str); 8] = [
     (TYPED, "Typed rules"),
     (SLIPS, "Slips"),
     (LAYOUTS, "Both layouts"),
+    (MODES, "Both modes"),
     (EARLIER, "Beside an earlier library"),
 ];
 
 /// The group that also has a table of logs whose runs share few ids.
 const READING: &str = "reading";
 
-/// The groups with tables of their own: that which has texts instead of logs, that of the runs that break a rule, that
-/// of both layouts of a work area, and that which holds this library against an earlier one.
+/// The groups with tables of their own: that which has texts instead of logs, that of the runs that break a rule, those
+/// of both layouts of a work area and of both modes, and that which holds this library against an earlier one.
 const TYPED: &str = "typed";
 const SLIPS: &str = "slips";
 const LAYOUTS: &str = "layouts";
+const MODES: &str = "modes";
 const EARLIER: &str = "earlier";
 
 fn group(name: &str) -> Vec<Measured> {
@@ -163,7 +167,7 @@ fn options() -> Result<Options, String> {
         }
     }
     if options.groups.is_empty() {
-        return Err("the groups are reading, figure1, section3, worst, typed, slips, layouts and earlier".into());
+        return Err("the groups are reading, figure1, section3, worst, typed, slips, layouts, modes and earlier".into());
     }
     if options.groups.iter().any(|(name, _)| *name == EARLIER) {
         options.libraries = Libraries::named()?;
@@ -182,7 +186,7 @@ fn main() -> ExitCode {
     let (rule, log) = (two_nodes().file, interleaved(MAX_RUNS, &LABELS));
     let mut noise = Noise::default();
     noise.measure("beginning", &rule, &log);
-    let is_own = |name: &str| [TYPED, SLIPS, LAYOUTS, EARLIER].contains(&name);
+    let is_own = |name: &str| [TYPED, SLIPS, LAYOUTS, MODES, EARLIER].contains(&name);
     let (own, groups): (Vec<_>, Vec<_>) = groups.into_iter().partition(|(name, _)| is_own(name));
     let title_of = |wanted: &str| own.iter().find(|(name, _)| *name == wanted).map(|(_, title)| *title);
     let groups: Vec<_> = groups.iter().map(|(name, title)| (*name, title, group(name))).collect();
@@ -205,12 +209,13 @@ fn main() -> ExitCode {
     let typed = title_of(TYPED).map(typed::measured);
     let slips = title_of(SLIPS).map(|title| slips::measured(title, longest)).unwrap_or_default();
     let layouts = title_of(LAYOUTS).map(|title| layouts::measured(title, sizes)).unwrap_or_default();
+    let modes = title_of(MODES).map(|title| modes::measured(title, longest)).unwrap_or_default();
     let relating = title_of(EARLIER).map(|title| relating::measured(title, libraries.as_ref())).unwrap_or_default();
     if let Some(libraries) = &libraries {
         reading.measure_earlier(libraries);
     }
     noise.measure("end", &rule, &log);
     print_noise(&noise);
-    let passed = checks::print_checks(&rows, &reading, typed.as_ref(), &slips, &layouts, &relating);
+    let passed = checks::print_checks(&rows, &reading, typed.as_ref(), &slips, &layouts, &modes, &relating);
     if passed { ExitCode::SUCCESS } else { ExitCode::FAILURE }
 }

@@ -3,7 +3,7 @@
 use crate::logs::Log;
 use crate::trace::Trace;
 use reference::rule::Rule;
-use scene_log::{check_line, check_log, Check, Layout, VERDICT_BYTES, WORK_BYTES};
+use scene_log::{check_line, check_log, Check, Layout, Mode, VERDICT_BYTES, WORK_BYTES};
 use std::hint::black_box;
 use std::time::{Duration, Instant};
 
@@ -12,7 +12,7 @@ const AT_LEAST: Duration = Duration::from_millis(200);
 const REPEATS: usize = 9;
 const LONG_ENOUGH: Duration = Duration::from_secs(3);
 
-/// Two calls that are held against each other take turns for this long, from 0 to 15 steps of two kinds down the stack.
+/// Calls that are held against each other take turns for this long, from 0 to 15 steps of two kinds down the stack.
 const TAKING_TURNS: Duration = Duration::from_secs(2);
 const STEPS: usize = 16;
 
@@ -39,7 +39,7 @@ fn repeats<S>(state: &mut S, prepare: impl Fn(&mut S), call: impl Fn(&mut S)) ->
     times
 }
 
-/// The shortest time of the whole-log call, and the verdicts.
+/// The shortest time of the whole-log call in full, and the verdicts.
 pub fn whole_log(rule: &[u8], log: &Log) -> (f64, Vec<bool>) {
     let mut buffers = (vec![0; WORK_BYTES], vec![0; VERDICT_BYTES]);
     let times = whole_log_times(rule, log, &mut buffers);
@@ -48,7 +48,7 @@ pub fn whole_log(rule: &[u8], log: &Log) -> (f64, Vec<bool>) {
 
 fn whole_log_times(rule: &[u8], log: &Log, buffers: &mut (Vec<u8>, Vec<u8>)) -> Vec<f64> {
     repeats(buffers, |_| {}, |(work, verdicts)| {
-        let answer = check_log(Layout::Square, rule, &log.bytes, work, verdicts);
+        let answer = check_log(Layout::Square, Mode::Full, rule, &log.bytes, work, verdicts);
         assert_eq!(answer.map(usize::from), Ok(2 * log.runs));
     })
 }
@@ -98,29 +98,30 @@ fn seconds_below<const BYTES: usize>(steps: usize, take: &dyn Fn() -> f64) -> f6
     time
 }
 
-/// The shortest times of two calls that take turns: each goes first in every other round. A call takes longer where the
-/// stack stands badly in its page, and that is not the same place for both; so it is moved after every two rounds.
-pub fn in_turns(one: impl Fn(), other: impl Fn()) -> (f64, f64) {
-    timed_in_turns(|| seconds_of(&one), || seconds_of(&other))
+/// The shortest times of calls that take turns: they go in order, and in the next round the other way. A call takes
+/// longer where the stack stands badly in its page, and that is not the same place for all; so it is moved after every
+/// two rounds.
+pub fn in_turns<const N: usize>(calls: [&dyn Fn(); N]) -> [f64; N] {
+    let timed = calls.map(|call| move || seconds_of(call));
+    timed_in_turns(timed.each_ref().map(|call| call as &dyn Fn() -> f64))
 }
 
-/// The same of two calls that take their own time, so that what they prepare is not in it.
-pub fn timed_in_turns(one: impl Fn() -> f64, other: impl Fn() -> f64) -> (f64, f64) {
+/// The same of calls that take their own time, so that what they prepare is not in it.
+pub fn timed_in_turns<const N: usize>(calls: [&dyn Fn() -> f64; N]) -> [f64; N] {
     let begin = Instant::now();
-    let (mut shortest, mut shortest_other) = (f64::INFINITY, f64::INFINITY);
+    let mut shortest = [f64::INFINITY; N];
     let mut place = 0;
     while begin.elapsed() < TAKING_TURNS {
         // The two kinds of steps differ by 16 bytes, so that together they reach many places of a page.
         let below = |take: &dyn Fn() -> f64| {
             seconds_below::<16>(place / STEPS % STEPS, &|| seconds_below::<32>(place % STEPS, take))
         };
-        shortest = shortest.min(below(&one));
-        shortest_other = shortest_other.min(below(&other));
-        shortest_other = shortest_other.min(below(&other));
-        shortest = shortest.min(below(&one));
+        for turn in (0..N).chain((0..N).rev()) {
+            shortest[turn] = shortest[turn].min(below(calls[turn]));
+        }
         place += 1;
     }
-    (shortest, shortest_other)
+    shortest
 }
 
 /// One of the two baselines: the verdict of every line.

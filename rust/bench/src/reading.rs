@@ -8,7 +8,7 @@ use crate::measure::in_turns;
 use crate::rules::two_nodes;
 use crate::table::{seconds, short, Number};
 use crate::LABELS;
-use scene_log::{check_log, Layout, VERDICT_BYTES, WORK_BYTES};
+use scene_log::{check_log, Layout, Mode, VERDICT_BYTES, WORK_BYTES};
 use std::cell::RefCell;
 use std::hint::black_box;
 
@@ -41,7 +41,7 @@ pub struct Rows {
     few_to_earlier: Vec<Row>,
 }
 
-/// What reads a log: the library that is linked in, or one that is loaded.
+/// What reads a log in full: the library that is linked in, or one that is loaded.
 #[derive(Clone, Copy)]
 enum Reader<'a> {
     Linked,
@@ -52,7 +52,9 @@ impl Reader<'_> {
     /// How many lines are taken; none where one is refused.
     fn read(self, rule: &[u8], log: &Log, work: &mut [u8], verdicts: &mut [u8]) -> Option<u32> {
         match self {
-            Reader::Linked => check_log(Layout::Square, rule, &log.bytes, work, verdicts).ok().map(u32::from),
+            Reader::Linked => {
+                check_log(Layout::Square, Mode::Full, rule, &log.bytes, work, verdicts).ok().map(u32::from)
+            }
             Reader::Loaded(library) => {
                 let answer = library.check_log(rule, &log.bytes, work, verdicts);
                 (answer < 1 << 16).then_some(answer)
@@ -78,7 +80,7 @@ fn row(name: String, [one, other]: [(Reader, &Log); 2]) -> Row {
         let (work, verdicts) = &mut *buffers.borrow_mut();
         black_box(reader.read(&rule, log, work, verdicts));
     };
-    let (time, other) = in_turns(|| call(one), || call(other));
+    let [time, other] = in_turns([&|| call(one), &|| call(other)]);
     let row = Row { log: name, runs, time, other };
     let ratio = short(row.time / row.other);
     println!("| {} | {} | {} | {} | {ratio} |", row.log, row.runs, seconds(row.time), seconds(row.other));

@@ -63,7 +63,7 @@ fn row(libraries: &Libraries, log: &Log) -> Row {
             black_box(library.relate(&record, *one, *other));
         }
     };
-    let (now, then) = in_turns(|| relate_all(&libraries.now), || relate_all(&libraries.earlier));
+    let [now, then] = in_turns([&|| relate_all(&libraries.now), &|| relate_all(&libraries.earlier)]);
     let row = Row { log: log.kind, runs: log.runs, now: now / CALLS as f64, earlier: then / CALLS as f64 };
     print_row(&row);
     row

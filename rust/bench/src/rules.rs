@@ -1,6 +1,7 @@
 //! The rules that are measured.
 
-use reference::rule::{read_rule, Node, Rule, AND, INCLUDES, NOT, OVERLAPS, SAME, SOME};
+use crate::logs::LAST;
+use reference::rule::{read_rule, Node, Rule, AND, HAS_LABEL, INCLUDES, NOT, OVERLAPS, SAME, SOME};
 use std::fs;
 use std::path::Path;
 
@@ -168,4 +169,42 @@ fn worst_inner_chain() -> Case {
     let both = list.and(none, never);
     list.some(&[0, 1, 2], both);
     list.case("worst: inner chain")
+}
+
+/// No run has the label LAST: three nodes. The rule fails once a run with that label has finished.
+pub fn no_last() -> Case {
+    let mut list = NodeList::with_labels(&[LAST]);
+    let last = list.node(HAS_LABEL, 0, 0);
+    let some_last = list.some(&[0], last);
+    list.not(some_last);
+    list.case("no LAST")
+}
+
+/// No A, B, C, D are as in `worst_nots`, with 52 times "not", and no run has the label LAST: 64 nodes. The first part
+/// is always true and takes long. The rule fails once a run with that label has finished.
+pub fn worst_nots_and_no_last() -> Case {
+    let mut list = NodeList::with_labels(&[LAST]);
+    let pair = list.never(0, 3);
+    let nots = list.nots(52, pair);
+    let some = list.some(&[0, 1, 2, 3], nots);
+    let none = list.not(some);
+    let last = list.node(HAS_LABEL, 0, 0);
+    let some_last = list.some(&[0], last);
+    let none_last = list.not(some_last);
+    list.and(none, none_last);
+    list.case("worst: 52 nots and no LAST")
+}
+
+/// The same first part, and some run is the same as itself: 63 nodes. Where all runs have labels, the rule fails with
+/// line 1 and holds once a run has finished.
+pub fn worst_nots_and_some_run() -> Case {
+    let mut list = NodeList::with_labels(&[]);
+    let pair = list.never(0, 3);
+    let nots = list.nots(52, pair);
+    let some = list.some(&[0, 1, 2, 3], nots);
+    let none = list.not(some);
+    let same = list.node(SAME, 0, 0);
+    let some_run = list.some(&[0], same);
+    list.and(none, some_run);
+    list.case("worst: 52 nots and some run")
 }

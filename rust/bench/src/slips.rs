@@ -3,15 +3,15 @@
 mod worst;
 
 use crate::checks::{print_numbers, Limit};
-use crate::logs::{begins_first, interleaved, kept, section_6_of_figure_1, section_6_of_section_3, Log, MAX_RUNS};
+use crate::logs::{begins_first, interleaved, kept, section_6_of_figure_1, section_6_of_section_3, Log, LAST, MAX_RUNS};
 use crate::measure::seconds_of;
 use crate::rules::{figure_1, section_3, two_nodes, Case};
 use crate::table::{seconds, short, Number};
 use crate::{measure, LABELS};
 use reference::rule::read_rule;
 use reference::slip::form_of;
-use scene_log::{slip_passes, write_first_slip, Layout, Refusal, SLIP_BYTES, VERDICT_BYTES, WORK_BYTES};
-use worst::{searched, worst, LAST};
+use scene_log::{slip_passes, write_first_slip, Layout, Mode, Refusal, SLIP_BYTES, VERDICT_BYTES, WORK_BYTES};
+use worst::{searched, worst};
 
 /// On the properties of the paper, finding and passing as multiples of the whole-log call with the two-node rule.
 const TO_READING: f64 = 3.0;
@@ -93,7 +93,8 @@ fn slow_rules(log: &Log) -> Vec<Case> {
                 let _ = write_first_slip(&file, &record, &mut [0; SLIP_BYTES]);
             });
             let whole = seconds_of(|| {
-                let _ = scene_log::check_log(Layout::Square, &file, &log.bytes, &mut work, &mut verdicts);
+                let (layout, mode) = (Layout::Square, Mode::Full);
+                let _ = scene_log::check_log(layout, mode, &file, &log.bytes, &mut work, &mut verdicts);
             });
             (finding, finding / whole, seed)
         })

@@ -5,7 +5,8 @@
 //! area name this layout. `reference_answers(&case)` gives what the reference answers and
 //! leaves in each buffer. To hold another implementation against the reference, give it
 //! the same case and compare with the answers. The cases of a seed in either layout
-//! differ in their work areas alone.
+//! differ in their work areas alone. A whole log is read in both modes; so that they
+//! differ, in many cases the rule first fails in the middle of the log.
 //!
 //! `texts` has cases of its own for rules typed by hand: `text_case(seed)` for reading a
 //! text, `rule_case(seed)` for writing one. `slips` has those for the runs that break a
@@ -25,16 +26,16 @@ pub mod typed;
 use areas::{area_of, lent_area, Fault};
 use random::Random;
 use reference::calls::{
-    check_line, check_line_with_tally, check_log, compose, converse, counts_of, next_line, relation_between,
-    start_record, LineAnswer, LogAnswer, NextLine, Tally,
+    check_line, check_line_with_tally, check_log, compose, converse, counts_of, finished_runs, next_line,
+    relation_between, start_record, LineAnswer, LogAnswer, NextLine, Tally,
 };
-use reference::formula::Formula;
+use reference::formula::{is_true, Formula};
 use reference::line::Event;
 use reference::record::{lines_of, record_of, Record};
 use reference::report::report;
 use reference::rule::{read_rule, Rule};
 use reference::trace::accepted_lines;
-use reference::{Layout, Refusal, VERDICT_BYTES};
+use reference::{Layout, Mode, Refusal, VERDICT_BYTES};
 
 /// The input of every call.
 #[derive(Clone, PartialEq, Eq, Debug)]
@@ -68,13 +69,21 @@ pub struct Case {
     pub sets: (u64, u64),
 }
 
+/// What the reference makes of a whole log in one mode: what the program prints, what the
+/// call answers, and what it leaves in its buffers.
+#[derive(Clone, PartialEq, Eq, Debug)]
+pub struct LogLeft {
+    pub report: Vec<u8>,
+    pub answer: LogAnswer,
+    pub work: Vec<u8>,
+    pub verdicts: Vec<u8>,
+}
+
 /// What the reference answers, and what it leaves in each buffer.
 #[derive(Clone, PartialEq, Eq, Debug)]
 pub struct Answers {
-    pub report: Vec<u8>,
-    pub log: LogAnswer,
-    pub log_work: Vec<u8>,
-    pub verdicts: Vec<u8>,
+    pub first_failure: LogLeft,
+    pub full: LogLeft,
     pub line: LineAnswer,
     pub line_work: Vec<u8>,
     pub tally_line: LineAnswer,
@@ -93,7 +102,7 @@ impl Answers {
     /// The refusal numbers among the answers.
     pub fn refusals(&self) -> Vec<Refusal> {
         let numbers = [
-            self.log.refusal.map(|(number, _)| number),
+            self.full.answer.refusal.map(|(number, _)| number),
             self.line.verdict.err(),
             self.tally_line.verdict.err(),
             self.next_line.0.as_ref().err().copied(),
@@ -117,8 +126,13 @@ pub fn case(layout: Layout, seed: u64) -> Case {
     let random = &mut Random::new(seed);
     let rule_labels = some_labels(random);
     let log = logs::any_log(random, &rule_labels);
-    let (accepted, _) = accepted_lines(&log.bytes);
-    let rule = rule_for(random, &rule_labels, &accepted);
+    let (accepted, refusal) = accepted_lines(&log.bytes);
+    let mut rule = rule_for(random, &rule_labels, &accepted);
+    // The last line may be the one that fails if there is a refused one behind it.
+    let last = if refusal.is_some() { accepted.len() } else { accepted.len().saturating_sub(1) };
+    if last >= 2 && random.chance(1, 2) {
+        rule = rule_that_fails(random, &rule_labels, &accepted, last).unwrap_or(rule);
+    }
     let mut file = rule_file(random, &rule);
     // A fault may leave a legal rule that is too much work; then there is no fault.
     if read_rule(&file).is_ok_and(|other| work_of(&other, &accepted) > MUCH_WORK) {
@@ -156,11 +170,16 @@ pub fn case(layout: Layout, seed: u64) -> Case {
     }
 }
 
+/// What the reference makes of the case's log in this mode.
+pub fn log_left(case: &Case, mode: Mode) -> LogLeft {
+    let mut work = case.log_work.clone();
+    let mut verdicts = case.verdicts.clone();
+    let answer = check_log(case.layout, mode, &case.rule, &case.log, &mut work, &mut verdicts);
+    LogLeft { report: report(mode, &case.rule, &case.log), answer, work, verdicts }
+}
+
 /// What the reference makes of the case.
 pub fn reference_answers(case: &Case) -> Answers {
-    let mut log_work = case.log_work.clone();
-    let mut verdicts = case.verdicts.clone();
-    let log = check_log(case.layout, &case.rule, &case.log, &mut log_work, &mut verdicts);
     let mut line_work = case.work.clone();
     let line = check_line(case.layout, &case.rule, &case.record, &mut line_work, &case.line);
     let mut tally_work = case.work.clone();
@@ -170,10 +189,8 @@ pub fn reference_answers(case: &Case) -> Answers {
     let mut start_work = case.start_work.clone();
     let start = start_record(case.layout, &mut start_work);
     Answers {
-        report: report(&case.rule, &case.log),
-        log,
-        log_work,
-        verdicts,
+        first_failure: log_left(case, Mode::FirstFailure),
+        full: log_left(case, Mode::Full),
         line,
         line_work,
         tally_line,
@@ -219,6 +236,32 @@ fn rule_for(random: &mut Random, labels: &[Vec<u8>], accepted: &[Event]) -> Rule
         }
         depth = (depth - 1).max(1);
     }
+}
+
+/// How many rules are tried for one that first fails in the middle of a log.
+const TRIED: usize = 12;
+
+/// A legal rule that holds with line 1 and first fails with a line up to `last`; none if none of those tried does.
+fn rule_that_fails(random: &mut Random, labels: &[Vec<u8>], accepted: &[Event], last: usize) -> Option<Rule> {
+    for _ in 0..TRIED {
+        let depth = *random.pick(&[1, 2, 2, 3]);
+        let mut rule = rules::legal_rule(random, labels.to_vec(), depth);
+        if work_of(&rule, accepted) > LITTLE_WORK {
+            continue;
+        }
+        if !is_true(&rule.formula(), &finished_runs(&accepted[..1])) {
+            rule = rules::negated(rule);
+        }
+        if first_failure(&rule.formula(), accepted).is_some_and(|line| (2..=last).contains(&line)) {
+            return Some(rule);
+        }
+    }
+    None
+}
+
+/// The first of these lines with which the rule fails.
+fn first_failure(formula: &Formula, accepted: &[Event]) -> Option<usize> {
+    (1..=accepted.len()).find(|lines| !is_true(formula, &finished_runs(&accepted[..*lines])))
 }
 
 /// The most formulas that judging every line with this rule looks at.

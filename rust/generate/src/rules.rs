@@ -1,7 +1,7 @@
 //! Rule files: legal ones, and ones with a fault of each number 1 to 10.
 
 use crate::random::Random;
-use reference::rule::{Node, Rule, AND, BEFORE, HAS_LABEL, INCLUDES, NOT, OVERLAPS, SAME, SOME};
+use reference::rule::{Node, Rule, AND, BEFORE, HAS_LABEL, INCLUDES, MAX_NODES, NOT, OVERLAPS, SAME, SOME};
 
 /// A rule as a tree; labels by their place in the file's list.
 #[derive(Clone)]
@@ -21,6 +21,15 @@ pub fn legal_rule(random: &mut Random, labels: Vec<Vec<u8>>, depth: usize) -> Ru
         random_rule(random, labels.len(), depth, budget)
     };
     Rule { labels, nodes: nodes_of(random, &tree) }
+}
+
+/// The rule with a "not" above it, where there is room for one more node.
+pub fn negated(mut rule: Rule) -> Rule {
+    if rule.nodes.len() < MAX_NODES {
+        let a = rule.nodes.len() as u8 - 1;
+        rule.nodes.push(Node { kind: NOT, a, b: 0 });
+    }
+    rule
 }
 
 /// A legal rule with as many labels and nodes as a file can hold: 599 bytes.

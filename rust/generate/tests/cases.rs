@@ -4,14 +4,16 @@ use generate::areas::{places_not_begun, Fault};
 use generate::logs::{faulty_line, LINE_REFUSALS};
 use generate::random::Random;
 use generate::records::{share_id, sharings, Sharing, SHARINGS};
-use generate::{case, reference_answers, rule_refusal, Case};
+use generate::{case, log_left, reference_answers, rule_refusal, Case};
 use reference::calls::{check_line, check_line_with_tally, finished_runs, start_record, Tally};
 use reference::formula::Formula;
 use reference::line::{read_line, Event};
+use reference::reading::{read_log, Reading};
 use reference::record::{first_place, lines_of, pair_bytes, record_of};
+use reference::report::report;
 use reference::rule::read_rule;
 use reference::trace::{accepted_lines, judge_line, labels_of, runs_of, Run};
-use reference::{Layout, MAX_LABELS, MAX_RUNS, VERDICT_BYTES};
+use reference::{Layout, Mode, MAX_LABELS, MAX_RUNS, VERDICT_BYTES};
 use std::collections::{BTreeMap, BTreeSet};
 
 const CASES: u64 = 4000;
@@ -63,7 +65,7 @@ fn every_refusal_number_is_reached_in(layout: Layout) {
         for number in answers.refusals() {
             *answered.entry(number).or_default() += 1;
         }
-        let text = String::from_utf8(answers.report).unwrap();
+        let text = String::from_utf8(answers.full.report).unwrap();
         for (_, number) in text.lines().filter_map(|line| line.split_once(" R")) {
             *printed.entry(number.parse().unwrap()).or_default() += 1;
         }
@@ -203,7 +205,7 @@ fn areas_of_the_other_layout_are_reached() {
 #[test]
 fn bytes_behind_the_pair_bytes_are_anything() {
     let mut found: BTreeMap<(Layout, &str), u64> = BTreeMap::new();
-    for (seed, layout) in in_both(0..CASES) {
+    for (seed, layout) in in_both(0..2 * CASES) {
         let case = case(layout, seed);
         let Some(behind) = case.work.get(layout.size()..).filter(|behind| !behind.is_empty()) else {
             continue;
@@ -217,7 +219,7 @@ fn bytes_behind_the_pair_bytes_are_anything() {
     }
     println!("{found:?}");
     assert_eq!(found.len(), 4);
-    assert!(found.values().all(|count| *count >= 100));
+    assert!(found.values().all(|count| *count >= 180));
 }
 
 /// "give the same verdicts, refusals and relations": where no area is too short, all answers of the reference but the
@@ -228,11 +230,14 @@ fn the_reference_answers_the_same_in_either_layout() {
     for seed in 0..CASES / 2 {
         let cases = Layout::ALL.map(|layout| case(layout, seed));
         let [square, half] = cases.clone().map(|case| reference_answers(&case));
-        assert_eq!(square.report, half.report, "seed {seed}");
-        if cases.iter().all(|case| case.log_work.len() >= case.layout.size()) {
-            assert_eq!((&square.log, &square.verdicts), (&half.log, &half.verdicts), "seed {seed}");
-            logs += 1;
+        let are_long = cases.iter().all(|case| case.log_work.len() >= case.layout.size());
+        for (square, half) in [(&square.full, &half.full), (&square.first_failure, &half.first_failure)] {
+            assert_eq!(square.report, half.report, "seed {seed}");
+            if are_long {
+                assert_eq!((&square.answer, &square.verdicts), (&half.answer, &half.verdicts), "seed {seed}");
+            }
         }
+        logs += u64::from(are_long);
         // A byte that is changed may stand where the other layout has none.
         if matches!(cases[0].fault, Fault::None) {
             let left = |answers: &generate::Answers| (answers.line.clone(), answers.tally_line.clone(), answers.tally);
@@ -242,6 +247,47 @@ fn the_reference_answers_the_same_in_either_layout() {
     }
     println!("{logs} logs, {lines} lines");
     assert!(logs >= CASES * 2 / 5 && lines >= CASES / 4);
+}
+
+/// In more than half of the cases whose rule is taken the modes differ, in more than a quarter by a failure that comes
+/// after line 1. Every line refusal stands behind a first failure, and many a one right behind it.
+#[test]
+fn the_modes_differ_in_a_good_share_of_the_cases() {
+    let (mut judged, mut differ, mut at_line_1, mut later, mut at_the_last) = (0, 0, 0, 0, 0);
+    let mut behind: BTreeMap<u8, u64> = BTreeMap::new();
+    let mut right_behind: BTreeMap<u8, u64> = BTreeMap::new();
+    for seed in 0..CASES {
+        let case = case_of(seed);
+        let Ok(rule) = read_rule(&case.rule) else {
+            continue;
+        };
+        let [short, full] = Mode::ALL.map(|mode| read_log(mode, &rule.formula(), &case.log));
+        judged += 1;
+        differ += u64::from(short != full);
+        let Some(before) = full.verdicts.iter().position(|holds| !holds) else {
+            assert_eq!(short, full, "seed {seed}");
+            continue;
+        };
+        let read = Reading {
+            accepted: full.accepted[..=before].to_vec(),
+            verdicts: full.verdicts[..=before].to_vec(),
+            refusal: None,
+        };
+        assert_eq!(short, read, "seed {seed}");
+        at_line_1 += u64::from(before == 0);
+        later += u64::from(before > 0 && short != full);
+        at_the_last += u64::from(short == full);
+        if let Some(number) = full.refusal {
+            *behind.entry(number).or_default() += 1;
+            *right_behind.entry(number).or_default() += u64::from(full.verdicts.len() == before + 1);
+        }
+    }
+    println!("{judged} rules, {differ} differ; {at_line_1} fail at line 1, {later} later, {at_the_last} at the end");
+    println!("refusals behind a failure {behind:?}, right behind it {right_behind:?}");
+    assert!(differ * 2 > judged && later * 4 > judged && at_line_1 >= 500 && at_the_last >= 10);
+    assert_eq!(behind.keys().copied().collect::<Vec<u8>>(), LINE_REFUSALS);
+    assert!(behind.values().sum::<u64>() * 4 > judged && behind.values().all(|count| *count >= 20));
+    assert!(right_behind.values().sum::<u64>() >= 100);
 }
 
 /// How many "some" nodes lie one inside another.
@@ -279,7 +325,7 @@ fn full_logs_many_labels_and_common_first_places_are_reached() {
         wraps += u64::from(places.iter().filter(|place| **place == 127).count() > 1);
         places.sort();
         collisions += u64::from(places.windows(2).any(|pair| pair[0] == pair[1]));
-        let verdicts: String = String::from_utf8(reference_answers(&case).report)
+        let verdicts: String = String::from_utf8(report(Mode::Full, &case.rule, &case.log))
             .unwrap()
             .lines()
             .filter_map(|line| line.chars().last().filter(|letter| "HF".contains(*letter)))
@@ -465,8 +511,8 @@ fn an_id_is_shared_as_it_is_asked_for() {
     assert_eq!(record, record_of(&accepted));
 }
 
-/// The program's output, rebuilt from single-line calls with a tally.
-fn report_from_single_lines(case: &Case) -> String {
+/// The program's output in this mode, rebuilt from single-line calls with a tally.
+fn report_from_single_lines(mode: Mode, case: &Case) -> String {
     if let Some(number) = rule_refusal(case) {
         return format!("0 R{number}\n");
     }
@@ -488,7 +534,13 @@ fn report_from_single_lines(case: &Case) -> String {
         let answer = check_line_with_tally(case.layout, &case.rule, &record, &mut work, &mut tally, line);
         record = answer.record;
         match answer.verdict {
-            Ok(holds) => text += &format!("{} {}\n", tally.lines, if holds { "H" } else { "F" }),
+            Ok(true) => text += &format!("{} H\n", tally.lines),
+            Ok(false) => {
+                text += &format!("{} F\n", tally.lines);
+                if mode == Mode::FirstFailure {
+                    break;
+                }
+            }
             Err(number) => {
                 text += &format!("{} R{number}\n", tally.lines + 1);
                 break;
@@ -505,17 +557,20 @@ fn line_by_line_and_all_at_once_agree() {
         if accepted_lines(&case.log).0.len() > 100 && seed % 16 != 0 {
             continue;
         }
-        let answers = reference_answers(&case);
-        let text = String::from_utf8(answers.report).unwrap();
-        assert_eq!(text, report_from_single_lines(&case), "seed {seed}");
-        let is_read = case.log_work.len() >= layout.size() && case.verdicts.len() >= VERDICT_BYTES;
-        if is_read && rule_refusal(&case).is_none() {
-            for (line, byte) in text.lines().zip(&answers.verdicts) {
-                match line.chars().last().unwrap() {
-                    'H' => assert_eq!(*byte, 1, "seed {seed}"),
-                    'F' => assert_eq!(*byte, 0, "seed {seed}"),
-                    _ => break,
-                }
+        for mode in Mode::ALL {
+            let left = log_left(&case, mode);
+            let text = String::from_utf8(left.report).unwrap();
+            assert_eq!(text, report_from_single_lines(mode, &case), "seed {seed}, {mode:?}");
+            let is_read = case.log_work.len() >= layout.size() && case.verdicts.len() >= VERDICT_BYTES;
+            if is_read && rule_refusal(&case).is_none() {
+                let verdicts = text.lines().map_while(|line| match line.chars().last() {
+                    Some('H') => Some(1),
+                    Some('F') => Some(0),
+                    _ => None,
+                });
+                let verdicts: Vec<u8> = verdicts.collect();
+                let (read, rest) = left.verdicts.split_at(verdicts.len());
+                assert_eq!((read, rest), (&verdicts[..], &case.verdicts[verdicts.len()..]), "seed {seed}, {mode:?}");
             }
         }
     }
@@ -526,8 +581,10 @@ fn log_bytes_past_8192_decide_nothing() {
     for seed in 0..CASES {
         let case = case_of(seed);
         if case.log.len() > 8192 {
-            let whole = reference::report::report(&case.rule, &case.log);
-            assert_eq!(whole, reference::report::report(&case.rule, &case.log[..8192]), "seed {seed}");
+            for mode in Mode::ALL {
+                let whole = report(mode, &case.rule, &case.log);
+                assert_eq!(whole, report(mode, &case.rule, &case.log[..8192]), "seed {seed}");
+            }
         }
     }
 }
@@ -547,18 +604,21 @@ fn a_refused_call_changes_no_lent_buffer() {
         if answers.start.is_err() {
             assert_eq!(answers.start_work, case.start_work);
         }
-        if matches!(answers.log.refusal, Some((_, 0))) {
-            assert_eq!((&answers.log_work, &answers.verdicts), (&case.log_work, &case.verdicts));
+        for left in [&answers.first_failure, &answers.full] {
+            if matches!(left.answer.refusal, Some((_, 0))) {
+                assert_eq!((&left.work, &left.verdicts), (&case.log_work, &case.verdicts));
+            }
+            assert_eq!(case.verdicts.get(VERDICT_BYTES..), left.verdicts.get(VERDICT_BYTES..));
         }
         for (before, after) in [
             (&case.work, &answers.line_work),
             (&case.work, &answers.tally_work),
-            (&case.log_work, &answers.log_work),
+            (&case.log_work, &answers.first_failure.work),
+            (&case.log_work, &answers.full.work),
             (&case.start_work, &answers.start_work),
         ] {
             assert_eq!(before.len(), after.len());
             assert_eq!(before.get(layout.size()..), after.get(layout.size()..));
         }
-        assert_eq!(case.verdicts.get(VERDICT_BYTES..), answers.verdicts.get(VERDICT_BYTES..));
     }
 }

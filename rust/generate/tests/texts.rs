@@ -7,7 +7,7 @@ use reference::formula::Formula;
 use reference::report::report;
 use reference::rule::read_rule;
 use reference::typed::{rule_file, rule_text};
-use reference::Layout;
+use reference::{Layout, Mode};
 use std::collections::BTreeMap;
 
 const CASES: u64 = 20_000;
@@ -126,9 +126,9 @@ fn a_written_text_has_the_same_verdicts() {
     for seed in 0..2_000 {
         let case = case(Layout::Square, seed);
         if let Ok(text) = rule_text(&case.rule) {
-            let expected = report(&case.rule, &case.log);
+            let expected = report(Mode::Full, &case.rule, &case.log);
             let again = rule_file(&text).unwrap();
-            assert!(report(&again, &case.log) == expected, "seed {seed}: {}", text.escape_ascii());
+            assert!(report(Mode::Full, &again, &case.log) == expected, "seed {seed}: {}", text.escape_ascii());
             rules += 1;
             lines += expected.split(|byte| *byte == b'\n').count();
         }

@@ -5,6 +5,7 @@ extern "C" {
     pub fn scene_log_text_from_rule(rule: *const u8, rule_length: usize, text: *mut u8, text_length: usize) -> u32;
     pub fn scene_log_report(
         layout: u32,
+        mode: u32,
         rule: *const u8,
         rule_length: usize,
         log: *const u8,
@@ -18,6 +19,7 @@ extern "C" {
     ) -> u32;
     pub fn scene_log_check_log(
         layout: u32,
+        mode: u32,
         rule: *const u8,
         rule_length: usize,
         log: *const u8,
@@ -29,6 +31,7 @@ extern "C" {
     ) -> u32;
     pub fn scene_log_check_log_record(
         layout: u32,
+        mode: u32,
         rule: *const u8,
         rule_length: usize,
         log: *const u8,

@@ -3,15 +3,18 @@
 //! Each function passes its slices on as a pointer and a length, and turns the number that comes back into a Rust type.
 //! Nothing is checked here: the library takes any input, and refuses what it does not take.
 //!
-//! A log at once, with the rule "some run is before another":
+//! A log at once, with the rule "some run is before another". By default a log is read through the first line with
+//! which the rule fails; the full mode is named:
 //!
 //! ```
-//! use scene_log::{report, Layout, TEXT_BYTES, VERDICT_BYTES, WORK_BYTES};
+//! use scene_log::{report, Layout, Mode, TEXT_BYTES, VERDICT_BYTES, WORK_BYTES};
 //!
 //! let rule = b"RUL\x01\x00\x00\x03\x05\x00\x01\x03\x01\x00\x03\x00\x01";
 //! let log = b"B 1 EVENING\nE 1\nB 2 TEST\nE 2\n";
 //! let (mut work, mut verdicts, mut text) = ([0; WORK_BYTES], [0; VERDICT_BYTES], [0; TEXT_BYTES]);
-//! let length = report(Layout::Square, rule, log, &mut work, &mut verdicts, &mut text)?;
+//! let length = report(Layout::Square, Mode::default(), rule, log, &mut work, &mut verdicts, &mut text)?;
+//! assert_eq!(&text[..length], b"1 F\nT 1 1 0 1 1\n");
+//! let length = report(Layout::Square, Mode::Full, rule, log, &mut work, &mut verdicts, &mut text)?;
 //! assert_eq!(&text[..length], b"1 F\n2 F\n3 F\n4 H\nT 4 2 2 0 3\n");
 //! # Ok::<(), scene_log::Refusal>(())
 //! ```
@@ -35,11 +38,11 @@
 //! instead of 16,384, and every answer is the same:
 //!
 //! ```
-//! use scene_log::{check_log, Layout, HALF_WORK_BYTES, VERDICT_BYTES};
+//! use scene_log::{check_log, Layout, Mode, HALF_WORK_BYTES, VERDICT_BYTES};
 //!
 //! let rule = b"RUL\x01\x00\x00\x03\x05\x00\x01\x03\x01\x00\x03\x00\x01";
 //! let (mut work, mut verdicts) = ([0; HALF_WORK_BYTES], [0; VERDICT_BYTES]);
-//! assert_eq!(check_log(Layout::Half, rule, b"B 1\nE 1\nB 2\nE 2\n", &mut work, &mut verdicts)?, 4);
+//! assert_eq!(check_log(Layout::Half, Mode::Full, rule, b"B 1\nE 1\nB 2\nE 2\n", &mut work, &mut verdicts)?, 4);
 //! assert_eq!(verdicts[..4], [0, 0, 0, 1]);
 //! # Ok::<(), scene_log::LogRefused>(())
 //! ```
@@ -66,12 +69,14 @@
 
 mod c;
 mod layout;
+mod mode;
 mod refusal;
 mod relation;
 mod slip;
 mod typed;
 
 pub use layout::Layout;
+pub use mode::Mode;
 pub use refusal::{LogRefused, Refusal};
 pub use relation::{Relation, Relations};
 pub use slip::{first_slip, slip_passes, write_first_slip, Slip};
@@ -149,10 +154,11 @@ fn lines_of(answer: u32) -> Result<u16, LogRefused> {
     value_of(answer).map_err(|(refusal, line)| LogRefused { refusal, line })
 }
 
-/// The whole output of the check for a rule file and a log, at the start of the text: its length. Refused with
-/// [`Refusal::ShortBuffer`] alone; then nothing is written.
+/// The whole output of the check for a rule file and a log in this mode, at the start of the text: its length. Refused
+/// with [`Refusal::ShortBuffer`] alone; then nothing is written.
 pub fn report(
     layout: Layout,
+    mode: Mode,
     rule: &[u8],
     log: &[u8],
     work: &mut [u8],
@@ -163,6 +169,7 @@ pub fn report(
     small_value(unsafe {
         c::scene_log_report(
             layout.number(),
+            mode.number(),
             rule.as_ptr(),
             rule.len(),
             log.as_ptr(),
@@ -178,22 +185,26 @@ pub fn report(
     .map(usize::from)
 }
 
-/// Reads a whole log with a rule file: how many lines it has, or where it is refused and why. A verdict byte is written for
-/// each line that is taken, 1 holds, 0 fails. An id whose run has finished may begin a new run.
+/// Reads a log with a rule file, through the first line with which the rule fails or in full: how many lines are taken,
+/// or where the log is refused and why. A verdict byte is written for each line that is taken, 1 holds, 0 fails. An id
+/// whose run has finished may begin a new run.
 ///
 /// ```
-/// use scene_log::{check_log, Layout, Refusal, VERDICT_BYTES, WORK_BYTES};
+/// use scene_log::{check_log, Layout, Mode, Refusal, VERDICT_BYTES, WORK_BYTES};
 ///
 /// let rule = b"RUL\x01\x00\x00\x02\x08\x00\x00\x03\x00\x00";
-/// let (mut work, mut verdicts) = ([0; WORK_BYTES], [0; VERDICT_BYTES]);
-/// assert_eq!(check_log(Layout::Square, rule, b"B 1 TEST\nE 1\nB 1\n", &mut work, &mut verdicts)?, 3);
-/// assert_eq!(verdicts[..3], [0, 1, 1]);
-/// let refused = check_log(Layout::Square, rule, b"B 1\nB 1\n", &mut work, &mut verdicts).unwrap_err();
-/// assert_eq!((refused.line, refused.refusal), (2, Refusal::StillOpen));
+/// let log = b"B 1 TEST\nE 1\nB 1\nB 1\n";
+/// let (mut work, mut verdicts) = ([0; WORK_BYTES], [7; VERDICT_BYTES]);
+/// assert_eq!(check_log(Layout::Square, Mode::FirstFailure, rule, log, &mut work, &mut verdicts)?, 1);
+/// assert_eq!(verdicts[..4], [0, 7, 7, 7]);
+/// let refused = check_log(Layout::Square, Mode::Full, rule, log, &mut work, &mut verdicts).unwrap_err();
+/// assert_eq!((refused.line, refused.refusal), (4, Refusal::StillOpen));
+/// assert_eq!(verdicts[..4], [0, 1, 1, 7]);
 /// # Ok::<(), scene_log::LogRefused>(())
 /// ```
 pub fn check_log(
     layout: Layout,
+    mode: Mode,
     rule: &[u8],
     log: &[u8],
     work: &mut [u8],
@@ -203,6 +214,7 @@ pub fn check_log(
     lines_of(unsafe {
         c::scene_log_check_log(
             layout.number(),
+            mode.number(),
             rule.as_ptr(),
             rule.len(),
             log.as_ptr(),
@@ -218,6 +230,7 @@ pub fn check_log(
 /// The same, with the record of the lines that were taken at the front of `record`.
 pub fn check_log_record(
     layout: Layout,
+    mode: Mode,
     rule: &[u8],
     log: &[u8],
     record: &mut [u8],
@@ -228,6 +241,7 @@ pub fn check_log_record(
     lines_of(unsafe {
         c::scene_log_check_log_record(
             layout.number(),
+            mode.number(),
             rule.as_ptr(),
             rule.len(),
             log.as_ptr(),
@@ -342,26 +356,44 @@ impl Check {
         check
     }
 
-    /// The check after the lines of a log that are taken, ready for the next line, in the square layout; and how many they
-    /// are, or where the log is refused and why.
+    /// The check after the lines of a log that are taken, ready for the next line, in the square layout; and how many
+    /// they are, or where the log is refused and why. The log is read through the first line with which the rule fails.
     ///
     /// ```
     /// use scene_log::{Check, Verdict};
     ///
     /// let rule = b"RUL\x01\x00\x00\x02\x08\x00\x00\x03\x00\x00";
-    /// let (mut check, lines) = Check::after(rule, b"B 1 TEST\n");
+    /// let (mut check, lines) = Check::after(rule, b"B 1 TEST\nE 1\n");
     /// assert_eq!(lines, Ok(1));
     /// assert_eq!(check.line(rule, b"E 1\n"), Ok(Verdict::Holds));
     /// ```
     pub fn after(rule: &[u8], log: &[u8]) -> (Check, Result<u16, LogRefused>) {
-        Check::after_with_layout(Layout::default(), rule, log)
+        Check::after_with(Layout::default(), Mode::default(), rule, log)
     }
 
     /// The same in this layout.
     pub fn after_with_layout(layout: Layout, rule: &[u8], log: &[u8]) -> (Check, Result<u16, LogRefused>) {
+        Check::after_with(layout, Mode::default(), rule, log)
+    }
+
+    /// The same in the square layout and in this mode.
+    ///
+    /// ```
+    /// use scene_log::{Check, Mode};
+    ///
+    /// let rule = b"RUL\x01\x00\x00\x02\x08\x00\x00\x03\x00\x00";
+    /// let (check, lines) = Check::after_with_mode(Mode::Full, rule, b"B 1 TEST\nE 1\n");
+    /// assert_eq!(lines, Ok(2));
+    /// ```
+    pub fn after_with_mode(mode: Mode, rule: &[u8], log: &[u8]) -> (Check, Result<u16, LogRefused>) {
+        Check::after_with(Layout::default(), mode, rule, log)
+    }
+
+    /// The same in this layout and in this mode.
+    pub fn after_with(layout: Layout, mode: Mode, rule: &[u8], log: &[u8]) -> (Check, Result<u16, LogRefused>) {
         let mut check = Check::with_layout(layout);
         let verdicts = &mut [0; VERDICT_BYTES];
-        let lines = check_log_record(layout, rule, log, &mut *check.record, &mut check.work, verdicts);
+        let lines = check_log_record(layout, mode, rule, log, &mut *check.record, &mut check.work, verdicts);
         (check, lines)
     }
 

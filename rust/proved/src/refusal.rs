@@ -98,7 +98,7 @@ impl fmt::Display for Refusal {
 
 impl Error for Refusal {}
 
-/// A log that is not read to its end.
+/// A log that is refused.
 #[derive(Clone, Copy, PartialEq, Eq, Hash, Debug)]
 pub struct LogRefused {
     /// Why.

@@ -76,10 +76,10 @@ pub fn first_slip(rule: &[u8], record: &[u8]) -> Result<Option<Slip>, Refusal> {
 /// Refused with 20 (for the record), the rule's 1 to 10, 26, 21 or 22, in this order.
 ///
 /// ```
-/// use scene_log::{rule_file, slip_passes, Check, Refusal};
+/// use scene_log::{rule_file, slip_passes, Check, Mode, Refusal};
 ///
 /// let rule = rule_file("!exist A, B . A < B")?;
-/// let (check, _) = Check::after(&rule, b"B 1\nE 1\nB 2\nE 2\nB 3\n");
+/// let (check, _) = Check::after_with_mode(Mode::Full, &rule, b"B 1\nE 1\nB 2\nE 2\nB 3\n");
 /// assert_eq!(slip_passes(&rule, &*check.record, &[0, 1]), Ok(true));
 /// assert_eq!(slip_passes(&rule, &*check.record, &[1, 0]), Ok(false));
 /// // Run 2 is open, and a slip of this rule has two runs.

@@ -43,12 +43,12 @@ pub fn text_from_rule(rule: &[u8], text: &mut [u8]) -> Result<usize, Refusal> {
 /// The rule file of a typed rule.
 ///
 /// ```
-/// use scene_log::{check_log, rule_file, Layout, VERDICT_BYTES, WORK_BYTES};
+/// use scene_log::{check_log, rule_file, Layout, Mode, VERDICT_BYTES, WORK_BYTES};
 ///
 /// let rule = rule_file("!exist A, B . A('EVENING') & B('TEST') & A i B").unwrap();
 /// let (mut work, mut verdicts) = ([0; WORK_BYTES], [0; VERDICT_BYTES]);
 /// let log = b"B 7 EVENING\nB 9 TEST\nE 9\nE 7\n";
-/// assert_eq!(check_log(Layout::Square, &rule, log, &mut work, &mut verdicts), Ok(4));
+/// assert_eq!(check_log(Layout::Square, Mode::default(), &rule, log, &mut work, &mut verdicts), Ok(4));
 /// assert_eq!(verdicts[..4], [1, 1, 1, 0]);
 /// ```
 pub fn rule_file(text: impl AsRef<[u8]>) -> Result<Vec<u8>, Refusal> {

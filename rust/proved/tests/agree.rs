@@ -1,26 +1,26 @@
 //! The proved library, the check program and the reference agree on everything that is generated.
 //!
-//! Every case goes to the library in both layouts of a work area, and to the program.
+//! Every case goes to the library in both layouts of a work area and in both modes, and to the program in both modes.
 
 #[path = "common/layouts.rs"]
 mod layouts;
+#[path = "common/program.rs"]
+mod program;
 
 use generate::random::Random;
-use generate::{case, Case};
+use generate::{case, log_left, Case};
 use layouts::{of_library, with_guard};
-use reference::calls::{check_log, LogAnswer};
+use program::{arguments, empty_folder, printed_by, program};
 use reference::report::report;
 use reference::trace::{accepted_lines, runs_of};
-use reference::Layout;
+use reference::{Layout, Mode};
 use scene_log::{LogRefused, Refusal, Relations};
 use std::collections::BTreeMap;
 use std::fs;
-use std::io::{Read, Write};
-use std::path::{Path, PathBuf};
-use std::process::{Command, Stdio};
+use std::path::Path;
 use std::thread;
 
-/// How many cases there are, each in both layouts.
+/// How many cases there are, each in both layouts and in both modes.
 const CASES: u64 = 21_000;
 
 /// The lengths of work areas about the sizes of both layouts.
@@ -45,6 +45,14 @@ fn described(case: &Case) -> String {
     format!("seed {seed} ({kind}), {layout:?}, {length} bytes\nrule {rule}\nlog {}", case.log.escape_ascii())
 }
 
+/// The library's mode of the same name.
+fn mode_of_library(mode: Mode) -> scene_log::Mode {
+    match mode {
+        Mode::FirstFailure => scene_log::Mode::FirstFailure,
+        Mode::Full => scene_log::Mode::Full,
+    }
+}
+
 /// What the whole-log call answers, and what it leaves in its buffers.
 #[derive(PartialEq, Debug)]
 struct LogLeft {
@@ -54,17 +62,17 @@ struct LogLeft {
     verdicts: Vec<u8>,
 }
 
-fn left_by_reference(case: &Case) -> LogLeft {
-    let (mut work, mut verdicts) = (case.log_work.clone(), case.verdicts.clone());
-    let LogAnswer { record, refusal } = check_log(case.layout, &case.rule, &case.log, &mut work, &mut verdicts);
-    LogLeft { lines: record.lines, refusal, work, verdicts }
+/// By the reference; and what the program prints.
+fn left_by_reference(case: &Case, mode: Mode) -> (LogLeft, Vec<u8>) {
+    let generate::LogLeft { report, answer, work, verdicts } = log_left(case, mode);
+    (LogLeft { lines: answer.record.lines, refusal: answer.refusal, work, verdicts }, report)
 }
 
-fn left_by_library(case: &Case) -> LogLeft {
+fn left_by_library(case: &Case, mode: Mode) -> LogLeft {
     let mut verdicts = case.verdicts.clone();
-    let layout = of_library(case.layout);
+    let (layout, mode) = (of_library(case.layout), mode_of_library(mode));
     let (answer, work) = with_guard(&case.log_work, |work| {
-        scene_log::check_log(layout, &case.rule, &case.log, work, &mut verdicts)
+        scene_log::check_log(layout, mode, &case.rule, &case.log, work, &mut verdicts)
     });
     let lines = answer.unwrap_or_else(LogRefused::lines).into();
     let refusal = answer.err().map(|refused| (refused.refusal.number(), refused.line.into()));
@@ -102,52 +110,24 @@ fn expected_report(case: &Case, text: &[u8], printed: &[u8], log: &LogLeft) -> R
     ReportLeft { length: Some(printed.len()), work: log.work.clone(), verdicts: log.verdicts.clone(), text }
 }
 
-fn report_by_library(case: &Case, text: &[u8]) -> ReportLeft {
+fn report_by_library(case: &Case, mode: Mode, text: &[u8]) -> ReportLeft {
     let (mut verdicts, mut text) = (case.verdicts.clone(), text.to_vec());
-    let layout = of_library(case.layout);
+    let (layout, mode) = (of_library(case.layout), mode_of_library(mode));
     let (answer, work) = with_guard(&case.log_work, |work| {
-        scene_log::report(layout, &case.rule, &case.log, work, &mut verdicts, &mut text)
+        scene_log::report(layout, mode, &case.rule, &case.log, work, &mut verdicts, &mut text)
     });
     let length = answer.map_err(|refusal| assert_eq!(refusal, Refusal::ShortBuffer)).ok();
     ReportLeft { length, work, verdicts, text }
 }
 
-/// The check program, built by `rt check log_check`.
-fn program() -> PathBuf {
-    let path = Path::new(env!("CARGO_MANIFEST_DIR")).join("../../target/bin/log_check");
-    assert!(path.is_file(), "target/bin/log_check is missing: run `rt check log_check` in the folder above rust/");
-    path
+/// What the program prints in this folder with these arguments, with the log handed over in pieces of this length.
+fn printed_by_program(folder: &Path, arguments: &[String], log: &[u8], piece: usize) -> Vec<u8> {
+    printed_by(program(folder, arguments), log, piece)
 }
 
-/// A folder of this test's own, empty.
-fn empty_folder(name: &str) -> PathBuf {
-    let folder = std::env::temp_dir().join(format!("scene_log_{name}_{}", std::process::id()));
-    let _ = fs::remove_dir_all(&folder);
-    fs::create_dir_all(&folder).unwrap();
-    folder
-}
-
-/// What the program prints in this folder, with the log handed over in pieces of this length.
-fn printed_by_program(folder: &Path, log: &[u8], piece: usize) -> Vec<u8> {
-    let mut child = Command::new(program())
-        .args(["ignored", "words"])
-        .current_dir(folder)
-        .stdin(Stdio::piped())
-        .stdout(Stdio::piped())
-        .spawn()
-        .unwrap();
-    let mut input = child.stdin.take().unwrap();
-    for part in log.chunks(piece.max(1)) {
-        // The program reads no more than decides every answer, so the rest may find no reader.
-        if input.write_all(part).is_err() {
-            break;
-        }
-    }
-    drop(input);
-    let mut output = Vec::new();
-    child.stdout.take().unwrap().read_to_end(&mut output).unwrap();
-    assert!(child.wait().unwrap().success());
-    output
+/// An argument that names the full mode.
+fn full() -> [String; 1] {
+    ["full".into()]
 }
 
 /// The refusal in a report, if there is one.
@@ -159,15 +139,17 @@ fn printed_refusal(report: &[u8]) -> Option<u8> {
 /// What was seen in the cases.
 #[derive(Default)]
 struct Seen {
-    answered: BTreeMap<(Layout, u8), u64>,
+    answered: BTreeMap<(Mode, Layout, u8), u64>,
     /// How often a work area of one of the lengths about both sizes was lent, and whether it was too short.
     lengths: BTreeMap<(Layout, usize, bool), u64>,
-    printed: BTreeMap<u8, u64>,
+    printed: BTreeMap<(Mode, u8), u64>,
     /// How often each kind of log was read, how many logs were full, and in how many an id begins again; in either
-    /// layout.
+    /// layout, in full.
     kinds: BTreeMap<&'static str, u64>,
     full: u64,
     again: u64,
+    /// How often the program prints something else in either mode.
+    differ: u64,
     cases: u64,
 }
 
@@ -187,6 +169,7 @@ impl Seen {
         }
         self.full += other.full;
         self.again += other.again;
+        self.differ += other.differ;
         self.cases += other.cases;
     }
 }
@@ -201,33 +184,55 @@ fn uses_an_id_again(log: &[u8]) -> bool {
     ids.len() < runs
 }
 
-/// Holds the three against each other on one case, in both layouts. The folder is for the program's rule file.
+/// Holds the three against each other on one case, in both layouts and in both modes. The folder is for the program's
+/// rule file.
 fn compare(seed: u64, folder: &Path, seen: &mut Seen) {
     let random = &mut Random::new(!seed);
     let text = text_buffer(random);
     let cases = Layout::ALL.map(|layout| case(layout, seed));
     // Rule and log are the same in both.
     let case = &cases[0];
-    let printed = report(&case.rule, &case.log);
-    for case in &cases {
-        compare_calls(case, &text, &printed, seen);
-    }
     fs::write(folder.join("rule.rul"), &case.rule).unwrap();
-    let piece = *random.pick(&[1, 7, 100, 4096, 10_000]);
-    let output = printed_by_program(folder, &case.log, piece.max(case.log.len() / 300));
-    assert!(output == printed, "the program and the reference differ on {}", described(case));
-    if let Some(number) = printed_refusal(&output) {
-        *seen.printed.entry(number).or_default() += 1;
-    }
+    let printed = Mode::ALL.map(|mode| {
+        for case in &cases {
+            compare_calls(case, mode, &text, seen);
+        }
+        compare_program(random, folder, case, mode, seen)
+    });
+    seen.differ += u64::from(printed[0] != printed[1]);
     seen.cases += 1;
 }
 
+/// Holds the program in this mode against the reference: what both print.
+fn compare_program(random: &mut Random, folder: &Path, case: &Case, mode: Mode, seen: &mut Seen) -> Vec<u8> {
+    let printed = report(mode, &case.rule, &case.log);
+    let words = random.pick(&arguments(mode)).clone();
+    let piece = *random.pick(&[1, 7, 100, 4096, 10_000]);
+    let output = printed_by_program(folder, &words, &case.log, piece.max(case.log.len() / 300));
+    assert!(output == printed, "the program with {words:?} and the reference differ on {}", described(case));
+    if let Some(number) = printed_refusal(&output) {
+        *seen.printed.entry((mode, number)).or_default() += 1;
+    }
+    printed
+}
+
 /// Holds the calls on a whole log against the reference.
-fn compare_calls(case: &Case, text: &[u8], printed: &[u8], seen: &mut Seen) {
-    let log = left_by_reference(case);
-    assert!(left_by_library(case) == log, "the whole-log calls differ on {}", described(case));
-    let expected = expected_report(case, text, printed, &log);
-    assert!(report_by_library(case, text) == expected, "the reports differ on {}", described(case));
+fn compare_calls(case: &Case, mode: Mode, text: &[u8], seen: &mut Seen) {
+    let (log, printed) = left_by_reference(case, mode);
+    assert!(left_by_library(case, mode) == log, "the whole-log calls differ, {mode:?}, on {}", described(case));
+    let expected = expected_report(case, text, &printed, &log);
+    assert!(report_by_library(case, mode, text) == expected, "the reports differ, {mode:?}, on {}", described(case));
+    let refusals = [log.refusal.map(|(number, _)| number), (expected.length.is_none()).then_some(20)];
+    for number in refusals.into_iter().flatten() {
+        *seen.answered.entry((mode, case.layout, number)).or_default() += 1;
+    }
+    if mode == Mode::Full {
+        see_log(case, &log, seen);
+    }
+}
+
+/// What kind of log was read, and in which area.
+fn see_log(case: &Case, log: &LogLeft, seen: &mut Seen) {
     let length = case.log_work.len();
     if LENGTHS.contains(&length) && case.verdicts.len() >= scene_log::VERDICT_BYTES {
         *seen.lengths.entry((case.layout, length, log.refusal == Some((20, 0)))).or_default() += 1;
@@ -236,10 +241,6 @@ fn compare_calls(case: &Case, text: &[u8], printed: &[u8], seen: &mut Seen) {
         *seen.kinds.entry(case.kind).or_default() += 1;
         seen.full += u64::from(log.lines == 256);
         seen.again += u64::from(uses_an_id_again(&case.log));
-    }
-    let refusals = [log.refusal.map(|(number, _)| number), (expected.length.is_none()).then_some(20)];
-    for number in refusals.into_iter().flatten() {
-        *seen.answered.entry((case.layout, number)).or_default() += 1;
     }
 }
 
@@ -265,14 +266,18 @@ fn library_program_and_reference_agree_on_generated_cases() {
             seen.add(part.join().unwrap());
         }
     });
-    println!("{} cases in both layouts, each with a run of the program", seen.cases);
-    println!("answered {:?}\nprinted {:?}\nread {:?}, {} of 256 lines", seen.answered, seen.printed, seen.kinds, seen.full);
+    println!("{} cases in both layouts and modes, each with a run of the program in either mode", seen.cases);
+    println!("answered {:?}\nprinted {:?}", seen.answered, seen.printed);
+    println!("read {:?}, {} of 256 lines, {} differ between the modes", seen.kinds, seen.full, seen.differ);
     println!("{} begin an id again; lengths {:?}", seen.again, seen.lengths);
     assert_eq!(seen.cases, CASES);
-    let with_20 = |layout: Layout| PRINTED.into_iter().chain([20]).map(move |number| (layout, number));
-    let expected: Vec<(Layout, u8)> = Layout::ALL.into_iter().flat_map(with_20).collect();
+    let both = Mode::ALL.into_iter().flat_map(|mode| Layout::ALL.map(|layout| (mode, layout)));
+    let with_20 = |(mode, layout)| PRINTED.into_iter().chain([20]).map(move |number| (mode, layout, number));
+    let expected: Vec<(Mode, Layout, u8)> = both.flat_map(with_20).collect();
     assert_eq!(seen.answered.into_keys().collect::<Vec<_>>(), expected);
-    assert_eq!(seen.printed.into_keys().collect::<Vec<u8>>(), PRINTED);
+    let expected: Vec<(Mode, u8)> = Mode::ALL.map(|mode| PRINTED.map(|number| (mode, number))).concat();
+    assert_eq!(seen.printed.into_keys().collect::<Vec<_>>(), expected);
+    assert!(seen.differ >= CASES / 2);
     for kind in ["no bytes", "short", "middling", "128 runs", "64 labels", "labels with one first place", "random bytes"] {
         assert!(seen.kinds[kind] >= 200, "{kind}");
     }
@@ -339,8 +344,16 @@ fn full_log(random: &mut Random, labels: &[Vec<u8>], runs: usize) -> Vec<u8> {
     log
 }
 
-/// The properties of the paper have up to four nested "some". A long log with all their labels soon breaks them, and is quick to
-/// judge; in one with another label alone nothing is found early.
+/// The report of the library.
+fn reported(layout: scene_log::Layout, mode: Mode, rule: &[u8], log: &[u8]) -> Vec<u8> {
+    let (mut work, mut verdicts, mut text) = (vec![7; layout.work_bytes()], [7; 256], [7; 2048]);
+    let mode = mode_of_library(mode);
+    let length = scene_log::report(layout, mode, rule, log, &mut work, &mut verdicts, &mut text).unwrap();
+    text[..length].to_vec()
+}
+
+/// The properties of the paper have up to four nested "some". A long log with all their labels soon breaks them, and is
+/// quick to judge; in one with another label alone nothing is found early.
 #[test]
 fn library_and_reference_agree_on_the_properties_of_the_paper() {
     let examples = Path::new(env!("CARGO_MANIFEST_DIR")).join("../../examples");
@@ -352,11 +365,12 @@ fn library_and_reference_agree_on_the_properties_of_the_paper() {
         for (all, runs) in [(true, 128), (true, 128), (true, 40), (true, 12), (false, 40), (false, 12)] {
             let listed = if all { &labels } else { &labels[labels.len() - 1..] };
             let log = full_log(random, listed, runs);
-            let expected = report(&rule, &log);
-            for layout in scene_log::Layout::ALL {
-                let (mut work, mut verdicts, mut text) = (vec![0; layout.work_bytes()], [0; 256], [0; 2048]);
-                let length = scene_log::report(layout, &rule, &log, &mut work, &mut verdicts, &mut text).unwrap();
-                assert!(text[..length] == expected, "{name}, {layout:?}, log {}", log.escape_ascii());
+            for mode in Mode::ALL {
+                let expected = report(mode, &rule, &log);
+                for layout in scene_log::Layout::ALL {
+                    let reported = reported(layout, mode, &rule, &log);
+                    assert!(reported == expected, "{name}, {layout:?}, {mode:?}, log {}", log.escape_ascii());
+                }
             }
         }
     }
@@ -372,10 +386,12 @@ fn p1() -> (Vec<u8>, Vec<u8>) {
 fn a_rule_file_that_cannot_be_opened_counts_as_no_bytes() {
     let folder = empty_folder("no_rule");
     let (_, log) = p1();
-    assert_eq!(printed_by_program(&folder, &log, 100), b"0 R1\n");
+    assert_eq!(printed_by_program(&folder, &[], &log, 100), b"0 R1\n");
+    assert_eq!(printed_by_program(&folder, &full(), &log, 100), b"0 R1\n");
     // A folder in its place can be opened, and reading it fails: then no report is printed.
     fs::create_dir(folder.join("rule.rul")).unwrap();
-    assert_eq!(printed_by_program(&folder, &log, 100), b"");
+    assert_eq!(printed_by_program(&folder, &[], &log, 100), b"");
+    assert_eq!(printed_by_program(&folder, &full(), &log, 100), b"");
     fs::remove_dir_all(&folder).unwrap();
 }
 
@@ -388,8 +404,8 @@ fn a_rule_file_above_599_bytes_is_seen_to_be_too_long() {
     for (more, is_taken) in [(0, true), (1, false), (2, false), (5000, false)] {
         let file = [longest.clone(), vec![0; more]].concat();
         fs::write(folder.join("rule.rul"), &file).unwrap();
-        let output = printed_by_program(&folder, &log, 100);
-        assert_eq!(output, report(&file, &log), "{more} bytes more");
+        let output = printed_by_program(&folder, &full(), &log, 100);
+        assert_eq!(output, report(Mode::Full, &file, &log), "{more} bytes more");
         assert_eq!(output != b"0 R7\n", is_taken, "{more} bytes more");
     }
     fs::remove_dir_all(&folder).unwrap();
@@ -410,7 +426,8 @@ fn the_program_reads_a_log_in_any_number_of_pieces() {
             if log.len() / piece > 10_000 {
                 continue;
             }
-            assert!(printed_by_program(&folder, log, piece) == report(&rule, log), "{} bytes by {piece}", log.len());
+            let printed = printed_by_program(&folder, &full(), log, piece);
+            assert!(printed == report(Mode::Full, &rule, log), "{} bytes by {piece}", log.len());
         }
     }
     fs::remove_dir_all(&folder).unwrap();
@@ -427,12 +444,22 @@ fn the_lessons_hold_for_library_and_program() {
         }
         let read = |name: &str| fs::read(folder.join(name)).unwrap();
         let (rule, log) = (read("rule.rul"), read("log"));
-        for layout in scene_log::Layout::ALL {
-            let (mut work, mut verdicts, mut text) = (vec![7; layout.work_bytes()], [7; 256], [7; 2048]);
-            let length = scene_log::report(layout, &rule, &log, &mut work, &mut verdicts, &mut text).unwrap();
-            assert!(text[..length] == read("expected"), "{}, {layout:?}", folder.display());
+        // What is expected is in full, and printed with the lesson's own arguments.
+        assert!(report(Mode::Full, &rule, &log) == read("expected"), "{}", folder.display());
+        let words = fs::read_to_string(folder.join("args")).unwrap_or_default();
+        let words: Vec<String> = words.lines().map(str::to_string).collect();
+        assert!(printed_by_program(&folder, &words, &log, 5) == read("expected"), "{}", folder.display());
+        for mode in Mode::ALL {
+            let expected = report(mode, &rule, &log);
+            for layout in scene_log::Layout::ALL {
+                let reported = reported(layout, mode, &rule, &log);
+                assert!(reported == expected, "{}, {layout:?}, {mode:?}", folder.display());
+            }
+            for words in arguments(mode) {
+                let printed = printed_by_program(&folder, &words, &log, 5);
+                assert!(printed == expected, "{}, {words:?}", folder.display());
+            }
         }
-        assert!(printed_by_program(&folder, &read("log"), 5) == read("expected"), "{}", folder.display());
         lessons += 1;
     }
     assert!(lessons >= 29);

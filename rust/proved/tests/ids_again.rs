@@ -15,7 +15,7 @@ use reference::line::Event;
 use reference::record::{lines_of, pair_bytes, record_of, RunEntry};
 use reference::relation::logs_of_three_runs;
 use reference::trace::accepted_lines;
-use reference::Layout;
+use reference::{Layout, Mode};
 use scene_log::{check_line, check_log_record, relate, Check, LogRefused, Refusal, Relation, Verdict};
 use scene_log::{RECORD_BYTES, VERDICT_BYTES};
 use std::collections::{BTreeMap, BTreeSet};
@@ -35,7 +35,7 @@ const LONG: usize = 300;
 /// Some run is before another. In a log of one id this is so once two runs have finished.
 const RULE: &[u8] = b"RUL\x01\x00\x00\x03\x05\x00\x01\x03\x01\x00\x03\x00\x01";
 
-/// What the whole-log call leaves: lines or refusal and its line, record, work area, verdicts.
+/// What the whole-log call leaves in full: lines or refusal and its line, record, work area, verdicts.
 #[derive(PartialEq)]
 struct Left {
     answer: Result<u16, (u8, u16)>,
@@ -47,7 +47,7 @@ struct Left {
 fn left_by_library(layout: Layout, log: &[u8]) -> Left {
     let (mut record, mut verdicts) = (vec![7; RECORD_BYTES], vec![7; VERDICT_BYTES]);
     let (answer, work) = with_guard(&vec![7; layout.size()], |work| {
-        check_log_record(of_library(layout), RULE, log, &mut record, work, &mut verdicts)
+        check_log_record(of_library(layout), scene_log::Mode::Full, RULE, log, &mut record, work, &mut verdicts)
     });
     let number = |refused: LogRefused| (refused.refusal.number(), refused.line);
     Left { answer: answer.map_err(number), record, work, verdicts }
@@ -55,7 +55,7 @@ fn left_by_library(layout: Layout, log: &[u8]) -> Left {
 
 fn left_by_reference(layout: Layout, log: &[u8]) -> Left {
     let (mut work, mut verdicts) = (vec![7; layout.size()], vec![7; VERDICT_BYTES]);
-    let answer = by_reference::check_log(layout, RULE, log, &mut work, &mut verdicts);
+    let answer = by_reference::check_log(layout, Mode::Full, RULE, log, &mut work, &mut verdicts);
     let lines = answer.record.lines as u16;
     let answered = answer.refusal.map_or(Ok(lines), |(number, line)| Err((number, line as u16)));
     Left { answer: answered, record: bytes_of(&answer.record), work, verdicts }

@@ -1,8 +1,8 @@
 //! The two layouts of a work area: the same answers in either, the same bytes at their pairs, which place is whose, what
 //! an area of the other layout meets, the lengths, and numbers that name no layout.
 //!
-//! The calls are made as C has them, with the number of a layout. What is expected is worked out here, a pair at a time;
-//! the reference has a part in the generated cases alone.
+//! The calls are made as C has them, with the number of a layout; whole logs are read in full. What is expected is
+//! worked out here, a pair at a time; the reference has a part in the generated cases alone.
 
 mod common;
 
@@ -10,7 +10,7 @@ use common::{bytes_of, first_seed};
 use generate::areas::Fault;
 use generate::random::Random;
 use generate::{case, Case};
-use scene_log::{Check, Layout, Refusal, RECORD_BYTES, TEXT_BYTES, VERDICT_BYTES};
+use scene_log::{Check, Layout, Mode, Refusal, RECORD_BYTES, TEXT_BYTES, VERDICT_BYTES};
 use std::collections::{BTreeMap, BTreeSet};
 
 /// Generated cases, of which those with a sound work area are made in both layouts.
@@ -23,6 +23,9 @@ const FULL_LOGS: u64 = 12;
 const SQUARE: usize = 16384;
 const HALF: usize = 8128;
 
+/// The number of the full mode.
+const FULL: u32 = 1;
+
 /// Some run is before another.
 const RULE: &[u8] = b"RUL\x01\x00\x00\x03\x05\x00\x01\x03\x01\x00\x03\x00\x01";
 
@@ -34,6 +37,7 @@ const fn refused(number: u32) -> u32 {
 extern "C" {
     fn scene_log_report(
         layout: u32,
+        mode: u32,
         rule: *const u8,
         rule_length: usize,
         log: *const u8,
@@ -47,6 +51,7 @@ extern "C" {
     ) -> u32;
     fn scene_log_check_log(
         layout: u32,
+        mode: u32,
         rule: *const u8,
         rule_length: usize,
         log: *const u8,
@@ -58,6 +63,7 @@ extern "C" {
     ) -> u32;
     fn scene_log_check_log_record(
         layout: u32,
+        mode: u32,
         rule: *const u8,
         rule_length: usize,
         log: *const u8,
@@ -159,6 +165,7 @@ fn report(layout: u32, lent: &mut Lent) -> u32 {
     unsafe {
         scene_log_report(
             layout,
+            FULL,
             lent.rule.as_ptr(),
             lent.rule.len(),
             lent.log.as_ptr(),
@@ -177,6 +184,7 @@ fn check_log(layout: u32, lent: &mut Lent) -> u32 {
     unsafe {
         scene_log_check_log(
             layout,
+            FULL,
             lent.rule.as_ptr(),
             lent.rule.len(),
             lent.log.as_ptr(),
@@ -193,6 +201,7 @@ fn check_log_record(layout: u32, lent: &mut Lent) -> u32 {
     unsafe {
         scene_log_check_log_record(
             layout,
+            FULL,
             lent.rule.as_ptr(),
             lent.rule.len(),
             lent.log.as_ptr(),
@@ -390,7 +399,7 @@ fn the_half_bytes_are_those_of_the_square_area_after_every_line() {
         }
         let used = half.work.iter().filter(|byte| **byte != 0).count();
         assert_eq!((lines.len(), used), (256, HALF), "seed {seed}");
-        let whole = Layout::ALL.map(|layout| Check::after_with_layout(layout, RULE, lines.concat().as_bytes()).0);
+        let whole = Layout::ALL.map(|layout| Check::after_with(layout, Mode::Full, RULE, lines.concat().as_bytes()).0);
         assert!(whole == [square, half], "seed {seed}");
     }
 }
@@ -398,7 +407,7 @@ fn the_half_bytes_are_those_of_the_square_area_after_every_line() {
 /// A check of so many open runs, in this layout. Their bytes are all 1: both have begun, and none has ended.
 fn open_runs(layout: Layout, runs: usize) -> Check {
     let log: String = (1..=runs).map(|id| format!("B {id}\n")).collect();
-    let (check, lines) = Check::after_with_layout(layout, RULE, log.as_bytes());
+    let (check, lines) = Check::after_with(layout, Mode::Full, RULE, log.as_bytes());
     assert_eq!(lines.map(usize::from), Ok(runs));
     check
 }
@@ -496,7 +505,7 @@ fn an_area_of_the_other_layout_is_21_unless_fewer_than_two_runs_have_begun() {
     let (mut right, mut wrong, mut short) = (0, 0, 0);
     for log in small_logs(6) {
         let begun = log.lines().filter(|line| line.starts_with('B')).count();
-        let [square, half] = Layout::ALL.map(|layout| Check::after_with_layout(layout, RULE, log.as_bytes()).0);
+        let [square, half] = Layout::ALL.map(|layout| Check::after_with(layout, Mode::Full, RULE, log.as_bytes()).0);
         let same = |length: usize, behind: &[(usize, u8)]| {
             let mut area = half.work.to_vec();
             area.resize(length, 0);
@@ -555,7 +564,7 @@ fn an_area_of_the_other_layout_is_21_unless_fewer_than_two_runs_have_begun() {
 /// A log of three runs, its check in this layout, and a line more.
 fn small(layout: Layout) -> Lent {
     let log = b"B 1 A\nB 2\nE 1\nB 1\n";
-    let (check, lines) = Check::after_with_layout(layout, RULE, log);
+    let (check, lines) = Check::after_with(layout, Mode::Full, RULE, log);
     assert_eq!(lines, Ok(4));
     Lent::new(RULE, log, &check, b"E 2\n")
 }

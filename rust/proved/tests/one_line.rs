@@ -19,7 +19,7 @@ use reference::calls::{check_line, check_line_with_tally, check_log, relation_be
 use reference::calls::{LineAnswer, LogAnswer, Tally};
 use reference::record::{first_place, record_of, Record};
 use reference::trace::accepted_lines;
-use reference::Layout;
+use reference::{Layout, Mode};
 use scene_log::{Check, LogRefused, Refusal, Relation, Verdict, RECORD_BYTES};
 use std::collections::{BTreeMap, BTreeSet};
 use std::fs;
@@ -178,7 +178,8 @@ fn library_and_reference_agree_on_single_lines_with_a_tally() {
     assert!(Layout::ALL.iter().all(|layout| answered[&(*layout, Err(24))] >= 100));
 }
 
-/// The whole-log call that also leaves the record: the record of the lines taken, or a buffer as it was where no line is read.
+/// The whole-log call that also leaves the record, in full: the record of the lines taken, or a buffer as it was where
+/// no line is read.
 #[test]
 fn library_and_reference_agree_on_the_record_of_a_log() {
     let (mut refused, mut unread, mut whole) = (0, 0, 0);
@@ -190,7 +191,8 @@ fn library_and_reference_agree_on_the_record_of_a_log() {
         let (mut work, mut verdicts) = (case.log_work.clone(), case.verdicts.clone());
         let (mut expected, mut expected_record) = (Err((20, 0)), before.clone());
         if length >= RECORD_BYTES {
-            let LogAnswer { record, refusal } = check_log(layout, &case.rule, &case.log, &mut work, &mut verdicts);
+            let (rule, log) = (&case.rule, &case.log);
+            let LogAnswer { record, refusal } = check_log(layout, Mode::Full, rule, log, &mut work, &mut verdicts);
             expected = refusal.map_or(Ok(record.lines), Err);
             if !matches!(expected, Err((_, 0))) {
                 expected_record[..RECORD_BYTES].copy_from_slice(&bytes_of(&record));
@@ -198,8 +200,9 @@ fn library_and_reference_agree_on_the_record_of_a_log() {
         }
         let (mut record_left, mut verdicts_left) = (before, case.verdicts);
         let (answer, work_left) = with_guard(&case.log_work, |work| {
+            let (layout, mode) = (of_library(layout), scene_log::Mode::Full);
             let (rule, log) = (&case.rule, &case.log);
-            scene_log::check_log_record(of_library(layout), rule, log, &mut record_left, work, &mut verdicts_left)
+            scene_log::check_log_record(layout, mode, rule, log, &mut record_left, work, &mut verdicts_left)
         });
         let numbers = |refused: LogRefused| (refused.refusal.number(), u64::from(refused.line));
         assert_eq!(answer.map(u64::from).map_err(numbers), expected, "seed {seed}, {layout:?}");
@@ -275,8 +278,8 @@ fn library_and_reference_agree_on_the_relation_of_two_runs() {
     assert_eq!(answers, [relations.to_vec(), refusals.to_vec()].concat());
 }
 
-/// The whole-log call is the repeated single-line call: the same verdicts, the same refusal at the same line, the same work area,
-/// and the record that the reference has.
+/// The whole-log call in full is the repeated single-line call: the same verdicts, the same refusal at the same line,
+/// the same work area, and the record that the reference has.
 #[test]
 fn a_log_line_by_line_is_the_log_at_once() {
     let (mut logs, mut refused, mut lines, mut longest) = (0, 0, 0, 0);
@@ -284,7 +287,8 @@ fn a_log_line_by_line_is_the_log_at_once() {
         let case = case(layout, seed);
         let layout = of_library(layout);
         let (mut work, mut verdicts) = (vec![7; layout.work_bytes()], vec![7; 256]);
-        let whole = scene_log::check_log(layout, &case.rule, &case.log, &mut work, &mut verdicts);
+        let mode = scene_log::Mode::Full;
+        let whole = scene_log::check_log(layout, mode, &case.rule, &case.log, &mut work, &mut verdicts);
         if matches!(whole, Err(LogRefused { line: 0, .. })) {
             continue;
         }

@@ -13,7 +13,7 @@ use reference::record::{record_of, Record};
 use reference::rule::read_rule;
 use reference::slip::form_of;
 use reference::trace::accepted_lines;
-use scene_log::{check_log, first_slip, rule_file, slip_passes, write_first_slip, Check, Layout, Refusal};
+use scene_log::{check_log, first_slip, rule_file, slip_passes, write_first_slip, Check, Layout, Mode, Refusal};
 use scene_log::{RECORD_BYTES, SLIP_BYTES, VERDICT_BYTES, WORK_BYTES};
 use std::collections::BTreeMap;
 use std::fs;
@@ -165,7 +165,8 @@ fn the_rule_fails_at_the_last_line_exactly_where_a_slip_is_found() {
             continue;
         };
         let (mut work, mut verdicts) = (vec![0; WORK_BYTES], vec![7; VERDICT_BYTES]);
-        let lines = check_log(Layout::Square, &case.rule, &case.log, &mut work, &mut verdicts).expect("accepted lines");
+        let (layout, mode) = (Layout::Square, Mode::Full);
+        let lines = check_log(layout, mode, &case.rule, &case.log, &mut work, &mut verdicts).expect("accepted lines");
         let slip = first_slip(&case.rule, &record).expect("a rule with slips and a record");
         if lines == 0 {
             assert_eq!(slip, None, "seed {seed}");
@@ -292,7 +293,7 @@ fn rule_faults() -> Vec<Vec<u8>> {
 /// Every set of faults that a call can have: "20; the rule's; 26; 21; 22", and the first of them is answered.
 #[test]
 fn of_several_faults_the_first_in_order_is_answered() {
-    let (record, lines) = Check::after(&p1_with(&[], true), LOG);
+    let (record, lines) = Check::after_with_mode(Mode::Full, &p1_with(&[], true), LOG);
     assert_eq!(lines, Ok(5));
     let mut answered: BTreeMap<(Option<u8>, Option<u8>), u64> = BTreeMap::new();
     for faults in rule_faults() {
@@ -334,7 +335,7 @@ fn of_several_faults_the_first_in_order_is_answered() {
 #[test]
 fn a_buffer_shorter_than_stated_is_refused_and_a_longer_one_is_taken() {
     let rule = p1_with(&[], true);
-    let (check, _) = Check::after(&rule, LOG);
+    let (check, _) = Check::after_with_mode(Mode::Full, &rule, LOG);
     for length in 0..12 {
         let left = agreed(&rule, &*check.record, &vec![7; length], &[0, 1], "buffer");
         assert_eq!(left.first, if length < SLIP_BYTES { Err(20) } else { Ok(2) }, "{length}");
@@ -386,7 +387,7 @@ fn p1_has_runs_0_and_1() {
 #[test]
 fn library_and_reference_agree_on_the_rule_of_p1_with_one_byte_wrong() {
     let rule = p1_with(&[], true);
-    let (check, _) = Check::after(&rule, LOG);
+    let (check, _) = Check::after_with_mode(Mode::Full, &rule, LOG);
     let mut answered = BTreeMap::new();
     for at in 0..=rule.len() {
         agreed(&rule[..at], &*check.record, &[7; SLIP_BYTES], &[0, 1], "cut");
@@ -406,7 +407,7 @@ fn library_and_reference_agree_on_the_rule_of_p1_with_one_byte_wrong() {
 #[test]
 fn library_and_reference_agree_on_a_record_with_one_byte_wrong() {
     let rule = p1_with(&[], true);
-    let (check, _) = Check::after(&rule, LOG);
+    let (check, _) = Check::after_with_mode(Mode::Full, &rule, LOG);
     let mut answered: BTreeMap<_, u64> = BTreeMap::new();
     for at in 0..RECORD_BYTES {
         for change in [1, 2, 128, 255] {
@@ -424,7 +425,7 @@ fn library_and_reference_agree_on_a_record_with_one_byte_wrong() {
 /// Rules of each form, worked out by hand: how many runs their slips have, 0 for another form.
 #[test]
 fn the_form_is_a_not_directly_over_one_to_four_some_and_none_below() {
-    let (check, _) = Check::after(&p1_with(&[], true), LOG);
+    let (check, _) = Check::after_with_mode(Mode::Full, &p1_with(&[], true), LOG);
     for (text, runs) in [
         ("!exist A . A('TEST')", 1),
         ("!exist A . !A('OTHER')", 1),
@@ -472,7 +473,7 @@ fn where_two_some_bind_a_variable_the_slip_has_a_run_for_each() {
         }
         nodes.push([2, nodes.len() as u8 - 1, 0]);
         let rule = [b"RUL\x01\x00\x01\x01B", &[nodes.len() as u8][..], &nodes.concat()].concat();
-        let (check, lines) = Check::after(&rule, log);
+        let (check, lines) = Check::after_with_mode(Mode::Full, &rule, log);
         assert_eq!(lines, Ok(6));
         let left = agreed(&rule, &*check.record, &[7; SLIP_BYTES], expected, "bound twice");
         assert_eq!((left.slip(), left.passes), (expected, Ok(true)), "{variables:?}");
@@ -519,7 +520,7 @@ fn library_and_reference_agree_on_the_slips_of_the_papers_properties() {
         for (all, runs) in [(true, 128), (true, 128), (true, 40), (false, 128), (false, 40), (false, 12)] {
             let listed = if all { &labels[..] } else { &labels[..1] };
             let log = long_log(random, listed, runs);
-            let (check, _) = Check::after(&rule, &log);
+            let (check, _) = Check::after_with_mode(Mode::Full, &rule, &log);
             let left = agreed(&rule, &*check.record, &[7; SLIP_BYTES], &[0, 1, 2], name);
             assert_eq!(left.first == Err(26), has_some_below, "{name}");
             match left.first {
@@ -554,7 +555,7 @@ fn slips_are_found_within_the_stack_of_the_header() {
         (format!("!exist A,B,C,D.{}", vec!["A<D"; 30].join("&")), Some(true)),
     ];
     let cases = texts.map(|(text, found)| (rule_file(&text).expect("a legal rule"), found));
-    let (check, _) = Check::after(&cases[0].0, &log);
+    let (check, _) = Check::after_with_mode(Mode::Full, &cases[0].0, &log);
     let run = move || {
         for (rule, found) in &cases {
             let slip = check.first_slip(rule).ok();

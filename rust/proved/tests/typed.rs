@@ -3,7 +3,7 @@
 use generate::case;
 use generate::texts::{rule_case, text_case};
 use reference::calls as by_reference;
-use scene_log::{report, rule_file, rule_from_text, rule_text, text_from_rule, Layout, Refusal};
+use scene_log::{report, rule_file, rule_from_text, rule_text, text_from_rule, Layout, Mode, Refusal};
 use scene_log::{RULE_BYTES, RULE_TEXT_BYTES};
 use std::collections::BTreeMap;
 use std::fs;
@@ -216,10 +216,10 @@ fn texts_at_the_edges() {
     assert_eq!(agreed_writing(b"", &[7; RULE_TEXT_BYTES], "edge"), 1);
 }
 
-/// The report of a rule on a log, by the library.
+/// The report of a rule on a log in full, by the library.
 fn reported(rule: &[u8], log: &[u8]) -> Vec<u8> {
     let (mut work, mut verdicts, mut text) = ([0; 16384], [0; 256], [0; 2048]);
-    let length = report(Layout::Square, rule, log, &mut work, &mut verdicts, &mut text).unwrap();
+    let length = report(Layout::Square, Mode::Full, rule, log, &mut work, &mut verdicts, &mut text).unwrap();
     text[..length].to_vec()
 }
 
@@ -235,7 +235,8 @@ fn a_rule_written_out_and_read_again_has_the_same_verdicts() {
         assert_eq!(rule_text(&again).unwrap(), text, "seed {seed}");
         let expected = reported(&case.rule, &case.log);
         assert!(reported(&again, &case.log) == expected, "seed {seed}: {text}");
-        assert!(reference::report::report(&again, &case.log) == expected, "seed {seed}: {text}");
+        let by_reference = reference::report::report(reference::Mode::Full, &again, &case.log);
+        assert!(by_reference == expected, "seed {seed}: {text}");
         rules += 1;
         lines += expected.split(|byte| *byte == b'\n').count();
     }

@@ -11,6 +11,7 @@
 //! - `relation`: the six relations, converse and composition (14).
 //! - `record`: the carried record and the pair bytes, and whether they are real (21).
 //! - `layout`: which pair each byte of a work area is of, in either layout.
+//! - `reading`: a whole log with a rule, up to the first failure or in full.
 //! - `calls`: the calls, with their refusals in order and what they leave in each buffer.
 //! - `report`: the whole output of the check program.
 //! - `slip`: the runs that break a rule, and which rules have them (26).
@@ -20,6 +21,7 @@ pub mod calls;
 pub mod formula;
 pub mod layout;
 pub mod line;
+pub mod reading;
 pub mod record;
 pub mod relation;
 pub mod report;
@@ -29,6 +31,7 @@ pub mod trace;
 pub mod typed;
 
 pub use layout::Layout;
+pub use reading::Mode;
 
 /// A number on the paper's list of refusals, 1 to 26.
 pub type Refusal = u8;

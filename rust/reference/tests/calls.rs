@@ -4,7 +4,7 @@ use reference::calls::*;
 use reference::record::{pair_bytes, record_of, Record};
 use reference::trace::accepted_lines;
 use reference::typed::rule_file;
-use reference::{Layout, VERDICT_BYTES};
+use reference::{Layout, Mode, VERDICT_BYTES};
 
 /// No EVENING includes a TEST.
 fn p1() -> Vec<u8> {
@@ -24,6 +24,11 @@ fn work_after(layout: Layout, log: &str) -> Vec<u8> {
     let mut work = pair_bytes(layout, &record_after(log));
     work.extend([0xA5; 7]);
     work
+}
+
+/// Each layout in either mode.
+fn in_both() -> Vec<(Layout, Mode)> {
+    Layout::ALL.into_iter().flat_map(|layout| Mode::ALL.map(|mode| (layout, mode))).collect()
 }
 
 fn tally(counts: [u64; 5]) -> Tally {
@@ -81,10 +86,11 @@ fn the_single_line_calls_follow_p1() {
 
 #[test]
 fn the_whole_log_call_follows_p1() {
-    for layout in Layout::ALL {
+    // The last line is the first that fails, so both modes read all.
+    for (layout, mode) in in_both() {
         let mut work = vec![0xA5; layout.size() + 3];
         let mut verdicts = vec![9; VERDICT_BYTES + 3];
-        let answer = check_log(layout, &p1(), P1_LOG.as_bytes(), &mut work, &mut verdicts);
+        let answer = check_log(layout, mode, &p1(), P1_LOG.as_bytes(), &mut work, &mut verdicts);
         assert_eq!(answer, LogAnswer { record: record_after(P1_LOG), refusal: None });
         assert_eq!(verdicts[..4], [1, 1, 1, 0]);
         assert!(verdicts[4..].iter().all(|byte| *byte == 9));
@@ -95,11 +101,11 @@ fn the_whole_log_call_follows_p1() {
 
 #[test]
 fn a_log_refused_at_a_line_keeps_what_came_before_it() {
-    for layout in Layout::ALL {
+    for (layout, mode) in in_both() {
         let mut work = vec![0xA5; layout.size()];
         let mut verdicts = vec![9; VERDICT_BYTES];
         let log = "B 7 EVENING\nB 9 TEST\nE 9\nB 7\nE 7\n";
-        let answer = check_log(layout, &p1(), log.as_bytes(), &mut work, &mut verdicts);
+        let answer = check_log(layout, mode, &p1(), log.as_bytes(), &mut work, &mut verdicts);
         let before = record_after("B 7 EVENING\nB 9 TEST\nE 9\n");
         assert_eq!(answer.refusal, Some((15, 4)));
         assert_eq!(work, pair_bytes(layout, &before));
@@ -111,10 +117,10 @@ fn a_log_refused_at_a_line_keeps_what_came_before_it() {
 #[test]
 fn the_whole_log_call_starts_a_record_itself() {
     let logs = [("", None), ("E 1\n", Some((16, 1))), ("B 1", Some((11, 1)))];
-    for (layout, (log, refusal)) in Layout::ALL.into_iter().flat_map(|layout| logs.map(|log| (layout, log))) {
+    for ((layout, mode), (log, refusal)) in in_both().into_iter().flat_map(|both| logs.map(|log| (both, log))) {
         let mut work = vec![0xA5; layout.size() + 3];
         let mut verdicts = vec![9; VERDICT_BYTES];
-        let answer = check_log(layout, &p1(), log.as_bytes(), &mut work, &mut verdicts);
+        let answer = check_log(layout, mode, &p1(), log.as_bytes(), &mut work, &mut verdicts);
         assert_eq!(answer, LogAnswer { record: Record::of_no_lines(), refusal });
         assert_eq!(work[..layout.size()], vec![0; layout.size()]);
         assert_eq!(work[layout.size()..], [0xA5; 3]);
@@ -140,12 +146,62 @@ fn the_whole_log_call_refused_for_20_or_the_rule_touches_no_buffer() {
         (Half, vec![], 8128, VERDICT_BYTES, 1),
         (Half, b"RUX".to_vec(), 16384, VERDICT_BYTES, 2),
     ] {
-        let mut work = vec![0xA5; work_length];
-        let mut verdicts = vec![9; verdict_length];
-        let answer = check_log(layout, &rule, b"E 1\n", &mut work, &mut verdicts);
-        assert_eq!(answer, LogAnswer { record: Record::of_no_lines(), refusal: Some((number, 0)) });
-        assert_eq!(work, vec![0xA5; work_length]);
-        assert_eq!(verdicts, vec![9; verdict_length]);
+        for mode in Mode::ALL {
+            let mut work = vec![0xA5; work_length];
+            let mut verdicts = vec![9; verdict_length];
+            let answer = check_log(layout, mode, &rule, b"E 1\n", &mut work, &mut verdicts);
+            assert_eq!(answer, LogAnswer { record: Record::of_no_lines(), refusal: Some((number, 0)) });
+            assert_eq!(work, vec![0xA5; work_length]);
+            assert_eq!(verdicts, vec![9; verdict_length]);
+        }
+    }
+}
+
+/// "after an F line, nothing further is read"; "later verdict bytes stay untouched".
+#[test]
+fn the_whole_log_call_stops_at_the_first_failure_unless_it_is_in_full() {
+    // The TEST has ended and no run is after it, until the second run has ended.
+    let rule = rule_file(b"!exist A . A('TEST') & !exist B . A < B").unwrap();
+    let log = "B 1 TEST\nE 1\nB 2\nE 2\nE 2\n";
+    for layout in Layout::ALL {
+        for (mode, read, refusal, expected) in [
+            (Mode::FirstFailure, "B 1 TEST\nE 1\n", None, [1, 0, 9, 9, 9]),
+            (Mode::Full, "B 1 TEST\nE 1\nB 2\nE 2\n", Some((17, 5)), [1, 0, 0, 1, 9]),
+        ] {
+            let mut work = vec![0xA5; layout.size() + 3];
+            let mut verdicts = vec![9; VERDICT_BYTES];
+            let answer = check_log(layout, mode, &rule, log.as_bytes(), &mut work, &mut verdicts);
+            assert_eq!(answer, LogAnswer { record: record_after(read), refusal });
+            assert_eq!(work[..layout.size()], pair_bytes(layout, &answer.record));
+            assert_eq!(work[layout.size()..], [0xA5; 3]);
+            assert_eq!(verdicts[..5], expected);
+            assert!(verdicts[5..].iter().all(|byte| *byte == 9));
+        }
+    }
+}
+
+/// "Answers: a line after the first F meets no refusal in the new default." One before it does.
+#[test]
+fn a_refusal_is_met_before_the_first_failure_and_not_behind_it() {
+    let some_run = rule_file(b"exist A . same(A,A) | !same(A,A)").unwrap();
+    for layout in Layout::ALL {
+        let met = |mode: Mode, rule: &[u8], log: &str| {
+            let (mut work, mut verdicts) = (vec![0; layout.size()], vec![9; VERDICT_BYTES]);
+            let answer = check_log(layout, mode, rule, log.as_bytes(), &mut work, &mut verdicts);
+            (answer.record.lines, answer.refusal)
+        };
+        // No run is finished with line 1, so the rule fails there.
+        for behind in ["X\n", "B 0\n", "B 2 x\n", "B 1\n", "E 2\n", "B 2", &"B 2\n".repeat(9000), ""] {
+            let log = format!("B 1\n{behind}");
+            assert_eq!(met(Mode::FirstFailure, &some_run, &log), (1, None), "{behind:?}");
+            assert_eq!(met(Mode::Full, &some_run, &log).1.is_some(), !behind.is_empty(), "{behind:?}");
+        }
+        // Line 4 would fail, and line 3 is refused.
+        let log = "B 7 EVENING\nB 9 TEST\nE 8\nE 9\nE 7\n";
+        for mode in Mode::ALL {
+            assert_eq!(met(mode, &p1(), log), (2, Some((16, 3))));
+            assert_eq!(met(mode, &some_run, "E 1\n"), (0, Some((16, 1))));
+        }
     }
 }
 

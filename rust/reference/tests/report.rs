@@ -2,12 +2,18 @@
 
 use reference::report::report;
 use reference::typed::rule_file;
+use reference::Mode;
 
 const P1: &str = "!exist A, B . A('EVENING') & B('TEST') & A i B";
 
-/// The verdict letters and refusal of the output, without line numbers, and the T line.
+/// The verdict letters and refusal of the output in full, without line numbers, and the T line.
 fn output(rule: &str, log: &str) -> String {
-    let text = String::from_utf8(report(&rule_file(rule.as_bytes()).unwrap(), log.as_bytes())).unwrap();
+    output_in(Mode::Full, rule, log)
+}
+
+/// The same in this mode.
+fn output_in(mode: Mode, rule: &str, log: &str) -> String {
+    let text = String::from_utf8(report(mode, &rule_file(rule.as_bytes()).unwrap(), log.as_bytes())).unwrap();
     let mut short = Vec::new();
     for (index, line) in text.lines().enumerate() {
         match line.split_once(' ').unwrap() {
@@ -26,29 +32,51 @@ fn output(rule: &str, log: &str) -> String {
 fn p1() {
     let rule = rule_file(P1.as_bytes()).unwrap();
     assert_eq!(rule.len(), 44);
-    let text = report(&rule, b"B 7 EVENING\nB 9 TEST\nE 9\nE 7\n");
-    assert_eq!(String::from_utf8(text).unwrap(), "1 H\n2 H\n3 H\n4 F\nT 4 2 2 0 1\n");
+    for mode in Mode::ALL {
+        let text = report(mode, &rule, b"B 7 EVENING\nB 9 TEST\nE 9\nE 7\n");
+        assert_eq!(String::from_utf8(text).unwrap(), "1 H\n2 H\n3 H\n4 F\nT 4 2 2 0 1\n");
+    }
 }
 
 #[test]
 fn p9() {
-    assert_eq!(output(P1, "B 1 TEST\nE 1\n"), "H H T 2 1 1 0 0");
+    for mode in Mode::ALL {
+        assert_eq!(output_in(mode, P1, "B 1 TEST\nE 1\n"), "H H T 2 1 1 0 0");
+    }
 }
 
+/// "P10 names the full mode."
 #[test]
 fn p10() {
-    assert_eq!(output("exist A . same(A,A)", "B 1\nE 1\n"), "F F T 2 1 1 0 2");
+    let output = |log: &str| output_in(Mode::Full, "exist A . same(A,A)", log);
+    assert_eq!(output("B 1\nE 1\n"), "F F T 2 1 1 0 2");
     // With a label it is the same as itself.
-    assert_eq!(output("exist A . same(A,A)", "B 1 A\nE 1\n"), "F H T 2 1 1 0 1");
+    assert_eq!(output("B 1 A\nE 1\n"), "F H T 2 1 1 0 1");
+}
+
+/// "after an F line, nothing further is read and the T line covers what was read".
+#[test]
+fn by_default_the_f_line_is_the_last_before_the_tally() {
+    let output = |rule: &str, log: &str| output_in(Mode::default(), rule, log);
+    assert_eq!(output("exist A . same(A,A)", "B 1\nE 1\n"), "F T 1 1 0 1 1");
+    let no_test_without_a_run_after_it = "!exist A . A('TEST') & !exist B . A < B";
+    for behind in ["", "B 2\nE 2\n", "X\n", "B 2", "E 1\n", &"B 3 TEST\nE 3\n".repeat(200)] {
+        let log = format!("B 9\nB 1 TEST\nE 1\n{behind}");
+        assert_eq!(output(no_test_without_a_run_after_it, &log), "H H F T 3 2 1 1 1", "{behind:?}");
+    }
+    // Line 2 is refused before any line fails.
+    assert_eq!(output(no_test_without_a_run_after_it, "B 1 TEST\nE 2\nE 1\n"), "H R16 T 1 1 0 1 0");
 }
 
 #[test]
 fn a_refused_rule_prints_one_line() {
-    assert_eq!(report(b"", b"B 1\n"), b"0 R1\n");
-    assert_eq!(report(b"RUX", b"B 1\n"), b"0 R2\n");
     let mut longer = rule_file(P1.as_bytes()).unwrap();
     longer.push(0);
-    assert_eq!(report(&longer, b""), b"0 R7\n");
+    for mode in Mode::ALL {
+        assert_eq!(report(mode, b"", b"B 1\n"), b"0 R1\n");
+        assert_eq!(report(mode, b"RUX", b"B 1\n"), b"0 R2\n");
+        assert_eq!(report(mode, &longer, b""), b"0 R7\n");
+    }
 }
 
 #[test]
@@ -136,7 +164,7 @@ fn log_bytes_past_8192_decide_nothing() {
     while log.len() < 20000 {
         log.extend(b"B 1\n");
     }
-    let whole = report(&rule, &log);
-    assert_eq!(whole, report(&rule, &log[..8192]));
+    let whole = report(Mode::Full, &rule, &log);
+    assert_eq!(whole, report(Mode::Full, &rule, &log[..8192]));
     assert!(whole.ends_with(b"256 H\n257 R18\nT 256 128 128 0 0\n"));
 }

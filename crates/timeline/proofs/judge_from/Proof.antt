@@ -74,7 +74,7 @@ ranked-moments-requires c κs =
 returns : tie.Need-returns
 returns c =
     let s = c .before .before .before .before .before .before .before .before .before .before .before .before .before .before .before .before in
-    judges-from (s .args .r) (s .pre .1 .0) (s .args .file .now) (s .args .rule) (s .args .line) (c .before .before .before .before .before .before .before .before .wanted-numbers .result) _ _ _ (s .pre .0) (c .before .before .before .before .before .before .before .before .before .before .before .finish-order .ensures)
+    judges-from (s .args .r) (s .pre .1 .0) (s .args .file .now) (s .args .rule) (s .args .line) (s .args .stop) (c .before .before .before .before .before .before .before .before .wanted-numbers .result) _ _ _ (s .pre .0) (c .before .before .before .before .before .before .before .before .before .before .before .finish-order .ensures)
     (c .before .before .before .before .before .before .before .before .wanted-numbers .ensures) (c .before .before .before .before .before .before-first .ensures) (c .before .ranked-moments .ensures)
 
 pub judge-from-spec : {M : Type 1} → statement M

@@ -2,7 +2,7 @@
 use native.Mathlib.Omega.{arith}
 use Rattle.rules.specs.Rules.{formulaOf}
 use Rattle.rows.specs.RankModel.{rankModel}
-use Rattle.timeline.proofs.Root.{among-from}
+use Rattle.timeline.proofs.Until.{until-from}
 use borrow.Author.Needs.{needs}
 use Rattle.timeline.proofs.ranked_moments.Statement.{statement}
 use Rattle.timeline.proofs.ranked_moments.Tie as tie
@@ -22,14 +22,14 @@ slice-aggregate-fill-rows c = search needs
 fill-rows-requires : tie.Need-fill-rows-requires
 fill-rows-requires c κs = search needs
 
-slice-aggregate-true-moments : tie.Need-slice-aggregate-true-moments
-slice-aggregate-true-moments c = search needs
+slice-aggregate-true-until : tie.Need-slice-aggregate-true-until
+slice-aggregate-true-until c = search needs
 
-true-moments-requires : tie.Need-true-moments-requires
-true-moments-requires c κs =
+true-until-requires : tie.Need-true-until-requires
+true-until-requires c κs =
     let s = c .before .before .before .before .before .before .before .before .before .before in
     let f = c .before .before .fill-rows .ensures in
-    (s .pre .0, (s .pre .1 .0, (omega (arith, f .filled .long), s .pre .1 .1 .0 .0 .ranks, c .before .before .before .before .moment-of .ensures .1, s .pre .1 .1 .0 .0 .ranks)))
+    (s .pre .0, (s .pre .1 .0, (omega (arith, f .filled .long), c .before .before .before .before .moment-of .ensures .1, s .pre .1 .1 .0 .0 .ranks)))
 
 returns : tie.Need-returns
 returns c =
@@ -37,8 +37,8 @@ returns c =
     let f = c .before .before .before .fill-rows .ensures in
     let m = c .before .before .before .before .before .moment-of in
     λ log u a e h w.
-    among-from (rankModel u) (formulaOf (s .args .file .now) (s .args .rule)) _ _ _ _ (m .ensures .0)
-    (c .true-moments .ensures (rankModel u) (f .meaning log (s .args .file .now) u a e h (s .pre .0 .labels) w))
+    until-from (s .args .stop) (rankModel u) (formulaOf (s .args .file .now) (s .args .rule)) _ _ _ _ (m .ensures .0)
+    (c .true-until .ensures (rankModel u) (f .meaning log (s .args .file .now) u a e h (s .pre .0 .labels) w))
 
 pub ranked-moments-spec : {M : Type 1} → statement M
 ranked-moments-spec =
@@ -49,6 +49,6 @@ ranked-moments-spec =
     moment-of-requires
     slice-aggregate-fill-rows
     fill-rows-requires
-    slice-aggregate-true-moments
-    true-moments-requires
+    slice-aggregate-true-until
+    true-until-requires
     returns)

@@ -34,8 +34,8 @@ returns-3 c = search log-unruled
 enum-known-x-2 : tie.Need-enum-known-x-2
 enum-known-x-2 c = search needs
 
-read-lines-requires : tie.Need-read-lines-requires
-read-lines-requires c κs = (search rule-taken, (search needs, search needs))
+read-part-requires : tie.Need-read-part-requires
+read-part-requires c κs = (search rule-taken, (search needs, search needs))
 
 same-length : tie.Need-same-length
 same-length c = search needs
@@ -60,7 +60,7 @@ check-log-spec =
     not-read-requires-3
     returns-3
     enum-known-x-2
-    read-lines-requires
+    read-part-requires
     same-length
     same-length-2
     returns-4)

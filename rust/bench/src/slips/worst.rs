@@ -3,12 +3,10 @@
 //! No slip of theirs passes, but for one rule, where the last of all does; and nothing tells so before the innermost
 //! run is chosen, as in `rules::worst`.
 
+use crate::logs::LAST;
 use crate::rules::{Case, NodeList};
 use generate::random::Random;
 use reference::rule::{BEFORE, HAS_LABEL, INCLUDES, MAX_NODES, OVERLAPS, SAME};
-
-/// The label that the last run of a log has, and no other.
-pub const LAST: &str = "LAST";
 
 /// The rules worked out by hand.
 pub fn worst() -> Vec<Case> {

@@ -1,13 +1,19 @@
-//! `check_log RULE LOG`: what the check program prints for this rule file and log.
+//! `check_log [full] RULE LOG`: what the check program prints for this rule file and log, up to the first failure or in
+//! full.
 
+use reference::Mode;
 use std::io::Write;
 use std::process::ExitCode;
 
 fn main() -> ExitCode {
     let arguments: Vec<String> = std::env::args().skip(1).collect();
-    let [rule_path, log_path] = arguments.as_slice() else {
-        eprintln!("usage: check_log RULE LOG");
-        return ExitCode::from(2);
+    let (mode, rule_path, log_path) = match arguments.as_slice() {
+        [rule, log] => (Mode::FirstFailure, rule, log),
+        [full, rule, log] if full == "full" => (Mode::Full, rule, log),
+        _ => {
+            eprintln!("usage: check_log [full] RULE LOG");
+            return ExitCode::from(2);
+        }
     };
     // "one that can't be opened counts as no bytes"
     let rule = std::fs::read(rule_path).unwrap_or_default();
@@ -18,7 +24,7 @@ fn main() -> ExitCode {
             return ExitCode::FAILURE;
         }
     };
-    match std::io::stdout().write_all(&reference::report::report(&rule, &log)) {
+    match std::io::stdout().write_all(&reference::report::report(mode, &rule, &log)) {
         Ok(()) => ExitCode::SUCCESS,
         Err(error) => {
             eprintln!("standard output: {error}");

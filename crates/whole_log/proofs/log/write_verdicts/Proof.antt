@@ -1,5 +1,8 @@
 use Prim.Native.Nat.{_-_, _≤_}
+use mathlib.Core.Path.{ap, _∙_}
 use native.Mathlib.Omega.{arith}
+use Rattle.logic.specs.Verdict.{verdictByte}
+use Rattle.timeline.specs.AllLines.{verdictAt}
 use borrow.Author.Needs.{needs}
 use Rattle.whole_log.specs.Written.{Written}
 use Rattle.whole_log.proofs.WholeLog.{fits-at, written-none, written-more, written-all}
@@ -7,7 +10,7 @@ use Rattle.whole_log.proofs.log.write_verdicts.Statement.{statement}
 use Rattle.whole_log.proofs.log.write_verdicts.Tie as tie
 
 abbrev Inv-loop : tie.InvT-loop
-Inv-loop x lines verdicts₀ k₀ verdicts k = (k ≤ lines) × Written x k verdicts₀ verdicts
+Inv-loop x lines verdicts₀ k₀ verdicts k = (k ≤ lines) × Written (verdictAt x) k verdicts₀ verdicts
 
 abbrev μ-loop : tie.MeasureT-loop
 μ-loop x lines verdicts₀ k₀ verdicts k = lines - k
@@ -35,7 +38,7 @@ loop-less c = search needs
 
 loop-again : tie.Need-loop-again Inv-loop μ-loop
 loop-again c =
-    (search needs, written-more _ _ _ _ _ _ (search needs) (c .before .before .before .loop .inv .1) (c .before .verdict-at .ensures) (c .byte-of .ensures))
+    (search needs, written-more _ _ _ _ _ (search needs) (c .before .before .before .loop .inv .1) (c .byte-of .ensures ∙ ap verdictByte (c .before .verdict-at .ensures)))
 
 same-length : tie.Need-same-length Inv-loop μ-loop
 same-length c = search needs

@@ -29,7 +29,7 @@ use Rattle.report.specs.declared.Reported.the-variants as Reported
 use Rattle.record_bytes.specs.declared.PackOutcome.{PackOutcome as Packed}
 use Rattle.record_bytes.specs.Form.{recordSize}
 use Rattle.record_bytes.specs.Calls.{packOf, Packs}
-use Rattle.answer_numbers.specs.Numbers.{layoutNamed, modeNamed, NamesMode, ByNamed, ByLayout, setNumber, relationNumber, outcomeNumber, endingNumber, logNumber, reportNumber, ReportFits, writtenNumber, WrittenFits}
+use Rattle.answer_numbers.specs.Numbers.{layoutNamed, NamesMode, ByNamed, ByLayout, setNumber, relationNumber, outcomeNumber, endingNumber, logNumber, reportNumber, ReportFits, writtenNumber, WrittenFits}
 use Rattle.answer_numbers.specs.InBytes.{asByte, recordIn, bytesAfter, lineNumbered, tallyIn, numbersAfter, talliedNumbered, bytesLeft, logKept}
 
 -- ── sets of relations ──

@@ -9,7 +9,7 @@ use lib.Dec.{eqb}
 use lib.ListN.{length, getD}
 use borrow.Author.Tests.{eq-eqb}
 use Rattle.lists.specs.Lists.{bytes, same?}
-use Rattle.lists.proofs.Cases.{either-bool, no-both}
+use Rattle.lists.proofs.Cases.{either-bool}
 use Rattle.lists.proofs.Lists.{same-eq, same-refl}
 use Rattle.whole_log.specs.declared.Mode.{Mode}
 use Rattle.whole_log.specs.declared.Mode.the-variants.{FirstFailure, Full}

@@ -1,15 +1,13 @@
 -- Reading all lines, finding the first that fails and reading the lines up to it gives what the lines through it give one after another.
-use Prim.Native.Nat.{ℕ, suc, _+_, _<_, _≤_}
+use Prim.Native.Nat.{ℕ, _+_, _<_, _≤_}
 use mathlib.Core.Path.{_≡_, refl, ap, sym, _∙_, subst}
-use mathlib.Core.List.{List, []}
+use mathlib.Core.List.{List}
 use native.Mathlib.Omega.{arith}
-use lib.Dec.{eqb}
 use lib.ListN.{length, take}
 use lib.Seq.{length-take-le, take-take}
 use borrow.Author.Tests.{eq-eqb, ne-eqb}
-use Rattle.lists.proofs.Cases.{either-lt, either-eq}
+use Rattle.lists.proofs.Cases.{either-lt}
 use Rattle.lines.specs.Log.{linesOf, flat}
-use Rattle.trace.specs.declared.Record.{Record}
 use Rattle.trace.specs.Trace.{Trace, next, noTrace, steps}
 use Rattle.trace.specs.Record.{recordOf}
 use Rattle.trace.proofs.Grown.{flat-lines}
@@ -17,19 +15,18 @@ use Rattle.pairs.specs.declared.Layout.{Layout}
 use Rattle.pairs.specs.Pairs.{workOf, heldTrace}
 use Rattle.rules.specs.declared.Rule.{Rule}
 use Rattle.rules.specs.Rules.{formulaOf}
-use Rattle.logic.specs.declared.Verdict.{Verdict}
 use Rattle.logic.specs.declared.Verdict.the-variants.{Holds, Fails}
 use Rattle.logic.specs.Verdict.{verdictByte, verdictOf, Says}
 use Rattle.timeline.specs.AllLines.{NotBehind, verdictUpTo, FindsFailing}
 use Rattle.reading.specs.declared.Ending.the-variants.{Read}
 use Rattle.reading.specs.declared.LogRead.{LogRead}
-use Rattle.reading.specs.Reading.{readFrom, readAnswer, ended}
+use Rattle.reading.specs.Reading.{readFrom, readAnswer}
 use Rattle.reading.proofs.Lines.{taken-lines, lines-counted}
 use Rattle.reading.proofs.Reading.{read-few, read-filled}
 use Rattle.whole_log.specs.Log.{linesFrom}
 use Rattle.whole_log.specs.Part.{toFailure}
 use Rattle.whole_log.specs.Written.{Written, firstOrAll, EndsLines}
-use Rattle.whole_log.proofs.Part.{not-both-verdicts, HoldsTo, Through, cut, whole, through}
+use Rattle.whole_log.proofs.Part.{not-both-verdicts, Through, cut, whole, through}
 use Rattle.whole_log.proofs.WholeLog.{read-lines-few, first-taken, taken-low, lines-within, found-line, all-taken, state-is, read-steps, read-at-once}
 
 -- ── the verdicts up to the first that fails ──

@@ -1,14 +1,13 @@
 -- The part that is read by default is the shortest part of the log that ends in a failing line, or all of it; there is one such part.
 use Prim.Native.Nat.{ℕ, zero, suc, _+_, _<_, _≤_}
 use mathlib.Core.Path.{_≡_, refl, ap, sym, _∙_, subst}
-use mathlib.Core.Logic.{_≢_}
 use mathlib.Core.List.{List, [], _∷_, _++_, append-assoc}
 use native.Mathlib.Omega.{arith}
 use lib.ListN.{length, take, drop, length-append, take-append-drop}
 use lib.Seq.{take-append-seam, take-append-le, length-take-le}
 use Rattle.lists.proofs.Cases.{either-lt}
 use Rattle.lines.specs.Log.{linesOf, flat}
-use Rattle.trace.specs.Trace.{Trace, Answer, next, refused, noTrace, step, steps, read, Accepted}
+use Rattle.trace.specs.Trace.{Trace, Answer, next, refused, noTrace, step, steps, read}
 use Rattle.trace.proofs.Grown.{no-bytes, flat-lines, accepted-lines}
 use Rattle.trace.proofs.Taken.{by-answer}
 use Rattle.pairs.specs.declared.Layout.{Layout}
@@ -22,7 +21,6 @@ use Rattle.logic.specs.Verdict.{verdictOf, Says}
 use Rattle.reading.specs.declared.LogRead.{LogRead}
 use Rattle.reading.specs.Reading.{byAnswer}
 use Rattle.reading.proofs.Lines.{same-trace, after-line, no-line, lines-accepted, taken-lines}
-use Rattle.single.specs.Line.{withRule}
 use Rattle.single.proofs.LineMeans.{verdict-says}
 use Rattle.single.proofs.LineCall.{with-taken, with-refused}
 use Rattle.whole_log.specs.declared.Mode.{Mode}

@@ -148,13 +148,19 @@ fn failing_lines(runs: usize) -> [usize; 4] {
     [2, runs / 2, runs, 2 * runs]
 }
 
+/// The proved search goes by 1, 4, 16, 32, 64 and 128 runs. These lines end the run behind such a part, where the search
+/// costs most beside the lines through them; the lines above end the last run of one.
+fn lines_behind_a_part(runs: usize) -> impl Iterator<Item = usize> {
+    [10, 34, 66, 130].into_iter().filter(move |line| *line <= 2 * runs)
+}
+
 /// The rules with their logs of so many runs that first fail at each of these lines. Two runs at least are needed to
 /// break a property of the paper, so none has a log that fails at line 2, which is the end line of the only run. A rule
 /// that asks for a run fails with line 1.
 fn broken_logs(runs: usize) -> Vec<(Case, Log, usize)> {
     let asking = [two_nodes(), worst_nots_and_some_run()];
     let mut all = Vec::from(asking.map(|rule| (rule, interleaved(runs, &["ONE"]), 1)));
-    for line in failing_lines(runs) {
+    for line in failing_lines(runs).into_iter().chain(lines_behind_a_part(runs)) {
         if line > 2 {
             for property in 1..=4 {
                 all.push((figure_1(property), figure_1_carried_on(property, line / 2, runs), line));
@@ -207,15 +213,21 @@ pub fn measured(title: &str, runs: usize) -> Rows {
 impl Rows {
     /// Prints a line for each requirement, over the rows of full logs. Answers whether none failed.
     pub fn print_checks(&self) -> bool {
+        let full = |behind: bool| {
+            let is_behind = move |row: &&Failing| lines_behind_a_part(row.runs).any(|line| line == row.line) == behind;
+            self.failing.iter().filter(|row| row.runs == MAX_RUNS).filter(is_behind)
+        };
         let check = |rules: &str| {
-            let of = self.failing.iter().filter(|row| row.runs == MAX_RUNS && row.rule.starts_with(rules));
+            let of = full(false).filter(|row| row.rule.starts_with(rules));
             let numbers = of.map(|row| Number { value: row.to_allowed(), is_taken: true }).collect();
             let what = format!("default / ({TO_FULL} × full to the failure + reading)");
             print_numbers(&format!("modes, {rules}"), &what, Limit::AtMost(TO_ALLOWED), numbers, short)
         };
         let passed = ["figure 1", "section 3", "two nodes", "no LAST", "worst"].map(check);
-        let full = self.kept.iter().filter(|row| row.runs == MAX_RUNS);
-        let numbers = full.map(|row| Number { value: row.to_full(), is_taken: true }).collect();
+        let numbers = full(true).map(|row| Number { value: row.to_allowed(), is_taken: true }).collect();
+        print_numbers("modes", "behind a part of the search, the same", Limit::NoneUp, numbers, short);
+        let kept = self.kept.iter().filter(|row| row.runs == MAX_RUNS);
+        let numbers = kept.map(|row| Number { value: row.to_full(), is_taken: true }).collect();
         print_numbers("modes", "logs that never fail, default / full", Limit::NoneUp, numbers, short);
         passed.iter().all(|passed| *passed)
     }
@@ -240,7 +252,8 @@ mod tests {
     fn every_log_first_fails_at_its_line() {
         for runs in [32, MAX_RUNS] {
             let logs = broken_logs(runs);
-            assert_eq!(logs.len(), 2 + 8 * 3 + 2 * 4);
+            let behind = lines_behind_a_part(runs).count();
+            assert_eq!(logs.len(), 2 + 8 * (3 + behind) + 2 * (4 + behind));
             for (rule, log, line) in logs {
                 let verdicts = verdicts(&rule, &log);
                 assert_eq!((log.runs, verdicts.len()), (runs, 2 * runs), "{}", rule.name);
@@ -276,6 +289,7 @@ mod tests {
             assert!(checks(vec![row(rule, MAX_RUNS, 1.79), row(rule, MAX_RUNS, 0.1)]));
             assert!(!checks(vec![row(rule, MAX_RUNS, 1.81), row(rule, MAX_RUNS, 0.1)]));
             assert!(checks(vec![row(rule, 32, 1.81)]));
+            assert!(checks(vec![Failing { line: 66, ..row(rule, MAX_RUNS, 1.81) }]));
         }
         let kept = vec![Kept { rule: "figure 1".into(), log: "kept", runs: MAX_RUNS, first: 9.0, full: 1.0 }];
         assert!(Rows { failing: Vec::new(), kept }.print_checks());

@@ -123,6 +123,13 @@ enum scene_log_mode {
     SCENE_LOG_FULL = 1
 };
 
+/* A label has 1 to 24 bytes, each a letter, a digit or an underscore. In logs, rule files and typed rules a to z count
+ * as A to Z: `test`, `Test` and `TEST` are one label, with one number in a record. Capitals come back: in the record,
+ * in a rule file that is made from a typed rule, and in the text of a rule file. A rule file that is handed in stays as
+ * it is. So a rule file whose list has one label in two cases is refused with 5, in a typed rule they are one label,
+ * and a record with a small letter in a label is refused with 21. Nothing but labels is read in either case: not the B
+ * and E of a line, nor the words and names of a typed rule. */
+
 /* The refusals. */
 enum scene_log_refusal {
     SCENE_LOG_RULE_ENDS_EARLY = 1,
@@ -219,16 +226,18 @@ static inline const char *scene_log_refusal_text(uint32_t refusal) {
 extern "C" {
 #endif
 
-/* Reads a typed rule, as "!exist A, B . A('EVENING') & B('TEST') & A i B", and writes its rule file to the start of rule, which
- * has at least SCENE_LOG_RULE_BYTES. Value: the file's length. It is a file that every call here takes as a rule. Refused, in
- * this order and each over the whole text, with 20; 25; 4 for more than 64 nodes or 16 different labels; 5 for a label; 9 for a
- * name that no "exist" around it binds; 10 for five names bound one inside another. Then nothing is written. */
+/* Reads a typed rule, as "!exist A, B . A('EVENING') & B('TEST') & A i B", and writes its rule file to the start of
+ * rule, which has at least SCENE_LOG_RULE_BYTES. Value: the file's length. It is a file that every call here takes as a
+ * rule. It has the labels in capitals, and those that differ only in case are one. Refused, in this order and each over
+ * the whole text, with 20; 25; 4 for more than 64 nodes or 16 different labels; 5 for a label; 9 for a name that no
+ * "exist" around it binds; 10 for five names bound one inside another. Then nothing is written. */
 SCENE_LOG_CALL SCENE_LOG_NOT_NULL(3)
 scene_log_answer scene_log_rule_from_text(const uint8_t *text, size_t text_length, uint8_t *rule, size_t rule_length);
 
-/* Writes a rule file out as a typed rule, to the start of text, which has at least SCENE_LOG_RULE_TEXT_BYTES. Value: the text's
- * length. It has no LF and no byte 0 at its end. Its names are A to D; read again, it is a rule with the same verdicts on every
- * log. Refused with 20, then with the rule's 1 to 10, and then nothing is written. */
+/* Writes a rule file out as a typed rule, to the start of text, which has at least SCENE_LOG_RULE_TEXT_BYTES. Value:
+ * the text's length. It has no LF and no byte 0 at its end. Its names are A to D, and its labels are in capitals; read
+ * again, it is a rule with the same verdicts on every log. Refused with 20, then with the rule's 1 to 10, and then
+ * nothing is written. */
 SCENE_LOG_CALL SCENE_LOG_NOT_NULL(3)
 scene_log_answer scene_log_text_from_rule(const uint8_t *rule, size_t rule_length, uint8_t *text, size_t text_length);
 
@@ -263,9 +272,10 @@ scene_log_answer scene_log_check_log_record(uint32_t layout, uint32_t mode, cons
  * first bytes of work are cleared, 16,384 in the square layout and 8,128 in the half layout. Refused with 20, and then nothing
  * is written. A tally starts at zeros.
  *
- * The record's bytes: the number of lines, low byte first; the numbers of runs and of labels, a byte each; from byte 4 on,
- * for each of 128 runs, 7 bytes: id, begin line and end line (0 while open), low byte first, and the label's number (0 for
- * none); from byte 900 on, for each of 64 labels, its length and its 24 bytes; from byte 2,500 on the 128 places. */
+ * The record's bytes: the number of lines, low byte first; the numbers of runs and of labels, a byte each; from byte 4
+ * on, for each of 128 runs, 7 bytes: id, begin line and end line (0 while open), low byte first, and the label's number
+ * (0 for none); from byte 900 on, for each of 64 labels, its length and its 24 bytes, in capitals; from byte 2,500 on
+ * the 128 places, by the hash of the capitals. */
 SCENE_LOG_CALL SCENE_LOG_NOT_NULL(2, 4)
 scene_log_answer scene_log_start(uint32_t layout, uint8_t *record, size_t record_length, uint8_t *work, size_t work_length);
 
@@ -314,7 +324,7 @@ scene_log_answer scene_log_slip_passes(const uint8_t *rule, size_t rule_length,
 SCENE_LOG_CALL scene_log_answer scene_log_compose(uint32_t first, uint32_t second);
 SCENE_LOG_CALL scene_log_answer scene_log_converse(uint32_t set);
 
-/* The 32-bit FNV-1a hash of the bytes. */
+/* The 32-bit FNV-1a hash of the bytes as they are. In a record a label has the place that its capitals have. */
 SCENE_LOG_CALL uint32_t scene_log_fnv1a(const uint8_t *bytes, size_t length);
 
 #ifdef __cplusplus

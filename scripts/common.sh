@@ -114,12 +114,17 @@ is_typed() { # RULE
     esac
 }
 
-# Sees to it that a rule.rul is the rule file made from the rule.txt beside it. They are compared by content: times say
-# too little, since a copy from git writes both in one moment, in any order. Where either may be the rule that is meant,
-# nothing is judged.
+# A rule file with its labels in capitals, as one that is made has them. Behind the mark only labels have these bytes.
+capitals() { # RULE
+    head -c 3 -- "$1" && tail -c +4 -- "$1" | LC_ALL=C tr a-z A-Z
+}
+
+# Sees to it that a rule.rul is the rule file made from the rule.txt beside it, small letters in its labels aside. They
+# are compared by content: times say too little, since a copy from git writes both in one moment, in any order. Where
+# either may be the rule that is meant, nothing is judged.
 keep_rule() { # RULE TEXT
     local made="made anew from $2, which is newer"
-    ! cmp -s -- "$room/made" "$1" || return 0
+    ! capitals "$1" 2>/dev/null | cmp -s - "$room/made" || return 0
     [ ! -e "$1" ] || [ "$2" -nt "$1" ] || trouble "$2 says another rule than $1, and is not newer:" \
         "remove the one that is not meant"
     [ -e "$1" ] || made="made from $2"

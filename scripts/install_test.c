@@ -1,6 +1,7 @@
 /* Tries the installed library: NULL with length 0, buffers that are too short, answers of every kind, a rule that is
- * typed and written out, both layouts of a work area, both modes of reading a log, and the stack that a call takes, on
- * a thread that has no more than the header promises. Prints the most stack taken. Exits with 1 at the first fault. */
+ * typed and written out, both layouts of a work area, both modes of reading a log, labels in letters of either case,
+ * and the stack that a call takes, on a thread that has no more than the header promises. Prints the most stack taken.
+ * Exits with 1 at the first fault. */
 #define _GNU_SOURCE
 #include <pthread.h>
 #include <stdio.h>
@@ -250,6 +251,54 @@ static void try_modes(void) {
     }
 }
 
+/* ---- labels in letters of either case */
+
+/* The rule, no run has the label TEST, and the log fails at its second line, in whatever letters both are written. */
+static void read_letters(uint32_t layout, const char *typed, const char *log) {
+    static const uint8_t in_capitals[] = {'R', 'U', 'L', 1, 0, 1, 4, 'T', 'E', 'S', 'T', 3, 4, 0, 0, 3, 0, 0, 2, 1, 0};
+    static const char in_full[] = "!(exist A.A('TEST'))";
+    uint8_t small[sizeof in_capitals];
+    scene_log_verdict verdict;
+    scene_log_answer answer = scene_log_rule_from_text((const uint8_t *)typed, strlen(typed), OF(made));
+    EXPECT(SCENE_LOG_VALUE(answer) == sizeof in_capitals && memcmp(made, in_capitals, sizeof in_capitals) == 0);
+    memcpy(small, in_capitals, sizeof small);
+    small[7] = 't', small[10] = 't';
+    answer = scene_log_text_from_rule(OF(small), OF(written));
+    EXPECT(SCENE_LOG_VALUE(answer) == sizeof in_full - 1 && memcmp(written, in_full, sizeof in_full - 1) == 0);
+    answer = scene_log_check_log_record(layout, FULL, OF(small), (const uint8_t *)log, strlen(log), OF(record),
+                                        OF(work), OF(verdicts));
+    EXPECT(SCENE_LOG_LINES(answer) == 3 && !SCENE_LOG_REFUSED(answer));
+    EXPECT(verdicts[0] == 1 && verdicts[1] == 0 && verdicts[2] == 0);
+    /* One label, in capitals, which both runs have. */
+    EXPECT(record[2] == 2 && record[3] == 1 && record[10] == 1 && record[17] == 1);
+    EXPECT(memcmp(record + 900, "\4TEST", 5) == 0);
+    answer = scene_log_first_slip(OF(small), OF(record), OF(slip));
+    EXPECT(SCENE_LOG_VALUE(answer) == 1 && slip[0] == 0);
+    record[904] = 't';
+    EXPECT(SCENE_LOG_REFUSAL(scene_log_relate(OF(record), 0, 0)) == SCENE_LOG_NO_RECORD);
+    EXPECT(SCENE_LOG_REFUSAL(scene_log_first_slip(OF(small), OF(record), OF(slip))) == SCENE_LOG_NO_RECORD);
+    verdict = scene_log_check_line(layout, OF(small), OF(record), OF(work), BYTES("E 2\n"));
+    EXPECT(SCENE_LOG_REFUSAL(verdict) == SCENE_LOG_NO_RECORD);
+    record[904] = 'T';
+    verdict = scene_log_check_line(layout, OF(small), OF(record), OF(work), BYTES("E 2\n"));
+    EXPECT(SCENE_LOG_FAILS(verdict));
+}
+
+static void try_letters(void) {
+    static const uint8_t twice[] = {'R', 'U', 'L', 1, 0, 2, 1, 'A', 1, 'a', 2, 8, 0, 0, 3, 0, 0};
+    scene_log_answer answer;
+    read_letters(SQUARE, "!exist A . A('TEST')", "B 1 TEST\nE 1\nB 2 TEST\n");
+    read_letters(SQUARE, "!exist A . A('test')", "B 1 test\nE 1\nB 2 test\n");
+    read_letters(HALF, "!exist A . A('Test')", "B 1 tEST\nE 1\nB 2 Test\n");
+    answer = scene_log_check_log(SQUARE, FULL, OF(twice), NULL, 0, OF(work), OF(verdicts));
+    EXPECT(SCENE_LOG_REFUSAL(answer) == SCENE_LOG_RULE_LABEL);
+    answer = scene_log_rule_from_text(BYTES("exist A . A('a-')"), OF(made));
+    EXPECT(SCENE_LOG_REFUSAL(answer) == SCENE_LOG_RULE_LABEL);
+    answer = scene_log_check_log(SQUARE, FULL, OF(rule), BYTES("B 1 x\nb 2 X\n"), OF(work), OF(verdicts));
+    EXPECT(SCENE_LOG_REFUSAL(answer) == SCENE_LOG_LINE_FORM && SCENE_LOG_REFUSED_LINE(answer) == 2);
+    EXPECT(scene_log_fnv1a(BYTES("a")) == 0xe40c292cu && scene_log_fnv1a(BYTES("A")) == 0xc40bf6ccu);
+}
+
 /* ---- the stack */
 
 static uint8_t deep[599];
@@ -383,6 +432,7 @@ int main(int count, char **arguments) {
     try_answers();
     try_layouts();
     try_modes();
+    try_letters();
     try_typed_rules();
     if (count == 1)
         try_stack();

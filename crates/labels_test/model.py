@@ -46,11 +46,15 @@ label byte 255: no
 label of length 0: ........................
 label of length 1: Z.......................
 label of length 24: ABCDEFGHIJKLMNOPQRSTUV_9
+label of length 5: AZ_09...................
+label of length 24: ABCDEFGHIJKLMNOPQRSTUVWX
+label of length 6: `A{@Z[..................
 same label, the same: yes
 same label, another last byte: no
 same label, another 24th byte: no
 same label, a prefix: no
 same label, another length only: no
+same label, in another case: yes
 same label, no bytes and no label: yes
 sound label, no label: yes
 sound label, AMBER: yes
@@ -58,7 +62,8 @@ sound label, 24 bytes: yes
 sound label, length 25: no
 sound label, a byte behind the length: no
 sound label, a zero inside the length: no
-sound label, lower case: no""".split("\n")
+sound label, lower case: no
+sound label, written in lower case: yes""".split("\n")
 
 # the table: a word to its number, and which places are taken
 class Table:
@@ -66,19 +71,19 @@ class Table:
         self.numbers = {}
         self.taken = set()
     def place(self, word):
-        place = fnv1a(word.encode()) % 128
+        place = fnv1a(word.upper().encode()) % 128
         while place in self.taken:
             place = 0 if place == 127 else place + 1
         return place
     def find(self, word):
-        if word in self.numbers:
-            out.append("%s has number %d" % (word, self.numbers[word]))
+        if word.upper() in self.numbers:
+            out.append("%s has number %d" % (word, self.numbers[word.upper()]))
         else:
             out.append("%s goes to place %d" % (word, self.place(word)))
     def put(self, word):
         self.find(word)
         self.taken.add(self.place(word))
-        self.numbers[word] = len(self.numbers) + 1
+        self.numbers[word.upper()] = len(self.numbers) + 1
 
 def first(place, words):
     for word in words:
@@ -93,6 +98,10 @@ first(32, ["AMBER", "SILVER", "RISE", "FALL", "FOREST"])
 first(127, ["FLY_B", "TRAP_B", "RAIN_A", "FADE_A"])
 first(0, ["SNOW2", "NOON3"])
 case(["AMBER", "SILVER", "RISE", "FALL"], ["FOREST"])
+t = Table()
+t.find("silver")
+for word in ["amber", "Silver"]: t.put(word)
+for word in ["AMBER", "aMBER", "SILVER", "silver"]: t.find(word)
 case(["FLY_B", "TRAP_B", "RAIN_A", "SNOW2"], ["FADE_A", "NOON3"])
 case(["L%02d" % i for i in range(64)], ["L64"])
 sys.stdout.write("\n".join(out) + "\n")

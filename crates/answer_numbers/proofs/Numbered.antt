@@ -24,6 +24,7 @@ use Rattle.tallies.specs.declared.Tallied.{Tallied}
 use Rattle.output.specs.declared.Written.{Written}
 use Rattle.output.specs.declared.Written.the-variants as Written
 use Rattle.whole_log.specs.declared.Mode.the-variants.{FirstFailure, Full}
+use Rattle.whole_log.proofs.Part.{not-full}
 use Rattle.report.specs.declared.Reported.{Reported}
 use Rattle.report.specs.declared.Reported.the-variants as Reported
 use Rattle.record_bytes.specs.declared.PackOutcome.{PackOutcome as Packed}
@@ -172,9 +173,6 @@ unfolding ByLayout
 no-layout n says refuses h r = subst (λ (x : Option Layout). ByNamed x says refuses) (sym (none-named n h)) r
 
 -- ── modes ──
-not-full : FirstFailure ≡ Full → ⊥
-not-full e = absurd (let z : _≡_ {A = ℕ} 0 1 = cc in omega arith)
-
 pub full-named : (n : ℕ) → n ≡ 1 → NamesMode n Full
 full-named n e = record { answer = simp (eq-eqb n 1 e); full = (λ _. e, λ _. refl) }
 

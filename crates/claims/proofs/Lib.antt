@@ -10,10 +10,13 @@ pub mod LinesRead
 pub mod TypedCases
 pub mod SlipCases
 pub mod IdCases
+pub mod LetterCases
 pub mod ModeCases
 pub mod Worked
 pub mod Typed
 pub mod Slips
 pub mod Layouts
 pub mod Modes
+pub mod CaseLabels
+pub mod CaseCalls
 pub mod Claims

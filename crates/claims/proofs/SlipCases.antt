@@ -14,7 +14,7 @@ use Rattle.trace.specs.declared.Record.{Record}
 use Rattle.trace.specs.Record.{recordOf}
 use Rattle.rules.specs.Formula.{Formula, both, neg, exists, has, pair, before, overlaps, includes, same, scoped, shallow}
 use Rattle.rules.specs.Cases.{p10File, p10Rule, p1File, p1Rule, noEveningIncludesTest, noTestWithoutRunAfter, someSameAsItself}
-use Rattle.labels.specs.Label.{letter?, digit?, labelForm?}
+use Rattle.labels.specs.Label.{letter?, digit?, capital, labelForm?}
 use Rattle.rules.specs.Parts.{part, andThen, nothingFollows}
 use Rattle.rules.specs.Labels.{labelStart, listed, readLabel, readLabels}
 use Rattle.rules.specs.Table.{readNodes, tree, formulaAt}
@@ -123,27 +123,27 @@ abbrev fourRule : Rule
 fourRule = record { labels = 1; nodes = 12; count = 6 }
 
 none-taken : ruleOf noneBefore ≡ RuleRead.Rule noneRule
-unfolding ruleOf part andThen nothingFollows labelStart listed readLabel readLabels readNodes tree formulaAt timesNamed onceBelow wholeTable scoped shallow letter? digit? labelForm?
+unfolding ruleOf part andThen nothingFollows labelStart listed readLabel readLabels readNodes tree formulaAt timesNamed onceBelow wholeTable scoped shallow letter? digit? capital labelForm?
 none-taken = refl
 
 other-taken : ruleOf allOther ≡ RuleRead.Rule otherRule
-unfolding ruleOf part andThen nothingFollows labelStart listed readLabel readLabels readNodes tree formulaAt timesNamed onceBelow wholeTable scoped shallow letter? digit? labelForm?
+unfolding ruleOf part andThen nothingFollows labelStart listed readLabel readLabels readNodes tree formulaAt timesNamed onceBelow wholeTable scoped shallow letter? digit? capital labelForm?
 other-taken = refl
 
 four-taken : ruleOf noTestFourTimes ≡ RuleRead.Rule fourRule
-unfolding ruleOf part andThen nothingFollows labelStart listed readLabel readLabels readNodes tree formulaAt timesNamed onceBelow wholeTable scoped shallow letter? digit? labelForm?
+unfolding ruleOf part andThen nothingFollows labelStart listed readLabel readLabels readNodes tree formulaAt timesNamed onceBelow wholeTable scoped shallow letter? digit? capital labelForm?
 four-taken = refl
 
 none-form : SlipForm (formulaOf noneBefore noneRule)
-unfolding WithoutSome formulaAt tree labelStart
+unfolding WithoutSome formulaAt tree labelStart capital
 none-form = record { variables = 0 ∷ 1 ∷ []; part = pair before 0 1; not-over = refl; one = omega arith; four = omega arith; without = tt }
 
 other-formed : SlipForm (formulaOf allOther otherRule)
-unfolding WithoutSome formulaAt tree labelStart
+unfolding WithoutSome formulaAt tree labelStart capital
 other-formed = record { variables = 0 ∷ []; part = neg (has 0 (bytes "OTHER")); not-over = refl; one = omega arith; four = omega arith; without = tt }
 
 four-form : SlipForm (formulaOf noTestFourTimes fourRule)
-unfolding WithoutSome formulaAt tree labelStart
+unfolding WithoutSome formulaAt tree labelStart capital
 four-form = record { variables = 0 ∷ 0 ∷ 0 ∷ 0 ∷ []; part = has 0 (bytes "TEST"); not-over = refl; one = omega arith; four = omega arith; without = tt }
 
 row-accepted : Accepted rowLog rowTrace
@@ -253,7 +253,7 @@ p10-other : SlipForm (formulaOf p10File p10Rule) → ⊥
 p10-other s = bare-some (subst SlipForm p10-formula s)
 
 bare-refused : ruleOf bareFive ≡ RuleRead.Refused 10
-unfolding ruleOf part andThen nothingFollows labelStart listed readLabel readLabels readNodes tree formulaAt timesNamed onceBelow wholeTable scoped shallow letter? digit? labelForm?
+unfolding ruleOf part andThen nothingFollows labelStart listed readLabel readLabels readNodes tree formulaAt timesNamed onceBelow wholeTable scoped shallow letter? digit? capital labelForm?
 bare-refused = refl
 
 pub slip-cases : SlipCases

@@ -8,7 +8,7 @@ use native.Mathlib.Omega.{arith}
 use lib.Dec.{leb}
 use lib.ListN.{length}
 use borrow.Author.Tests.{leb-true}
-use Rattle.labels.specs.Label.{letter?, digit?, labelForm?}
+use Rattle.labels.specs.Label.{letter?, digit?, capital, labelForm?}
 use Rattle.lists.specs.Lists.{bytes}
 use Rattle.rules.specs.Formula.{before, overlaps, includes, same, Formula, both, neg, exists, pair, noScope, scoped, shallow}
 use Rattle.rules.specs.Cases.{p1File, noEveningIncludesTest}
@@ -54,7 +54,7 @@ unfolding textAnswer
 short-p1 = refl
 
 pub typed-cases : TypedCases
-unfolding letter? digit? labelForm? scoped shallow blank? skip sign capital? wordByte? nameMore name label relation readSame readHas readPair readAtom readOr treeOf readText levelFrom inside put closeOr emit labelText formulaFor withLabel labelsIn textIn judged nodesBytes fileFrom fileOf typedAnswer
+unfolding letter? digit? capital labelForm? scoped shallow blank? skip sign capital? wordByte? nameMore name label relation readSame readHas readPair readAtom readOr treeOf readText levelFrom inside put closeOr emit labelText formulaFor withLabel labelsIn textIn judged nodesBytes fileFrom fileOf typedAnswer
 typed-cases = record {
   p1 = refl;
   p1-file = refl;

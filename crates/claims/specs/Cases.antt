@@ -29,6 +29,7 @@ use Rattle.report.specs.Text.{reportText}
 use Rattle.claims.specs.TypedCases.{TypedCases}
 use Rattle.claims.specs.SlipCases.{SlipCases}
 use Rattle.claims.specs.IdCases.{IdCases}
+use Rattle.claims.specs.LetterCases.{LetterCases}
 
 pub record P1 : Type 0 where
   pub size : length p1File ≡ 44
@@ -108,3 +109,4 @@ pub record Cases : Type 0 where
   pub ids : IdCases
   pub layouts : LayoutCases
   pub modes : ModeCases
+  pub letters : LetterCases

@@ -1,6 +1,6 @@
--- The three demands, the typed rules, the slips, the layouts and the modes, as seven statements about every call
--- (`Calls.antt`, `Typed.antt`, `Slips.antt`): of whatever the calls answer and leave by their contracts. That a call
--- ends and does nothing undefined is proved of every function.
+-- The three demands, the typed rules, the slips, the layouts, the modes and the case of labels, as eight statements
+-- about every call (`Calls.antt`, `Typed.antt`, `Slips.antt`): of whatever the calls answer and leave by their
+-- contracts. That a call ends and does nothing undefined is proved of every function.
 --
 -- The words of this page, and where they are defined:
 --   Accepted log t      no line of log meets a refusal, and its lines leave the trace t   trace/specs/Trace
@@ -17,6 +17,8 @@
 --   readPart, PartOf    the part of a log that is read in a mode, by computing and by what  whole_log/specs/Part
 --                       it is
 --   logPart, reportPart the part that a call reads                                        report/specs/Calls
+--   capital, capitals   what a byte of a label counts as; the capitals of a label as written labels/specs/Label
+--   RecasedLog, RecasedRule, RecasedText   a log, a rule file, a text in another case      letter_case/specs/Recased
 --   Lent, Beyond        a lent buffer; what stands behind the bytes that a call writes    report/specs/Calls
 --   Grammar.Says text t the text is inside the grammar of typed rules and says the tree t typed_grammar/specs/Grammar
 --   formulaSaid t       the formula that the tree says, each name the level of its exist  typed_grammar/specs/Formula
@@ -53,6 +55,7 @@ use Rattle.claims.specs.Typed.{TypedRules}
 use Rattle.claims.specs.Slips.{Slips}
 use Rattle.claims.specs.Layouts.{Layouts}
 use Rattle.claims.specs.Modes.{Modes}
+use Rattle.claims.specs.LetterCase.{LetterCase}
 
 -- "Take any of the 64 × 64 pairs of sets of relations, the empty set included, and any relation. That relation is in
 -- the composition that we report for the pair exactly when some accepted log, of any length, has three different
@@ -81,3 +84,5 @@ pub record Demands : Type 0 where
   pub layouts : Layouts
   -- how much of a log is read: "after an F line, nothing further is read"
   pub modes : Modes
+  -- labels in either case: "treat a to z as A to Z"
+  pub letters : LetterCase

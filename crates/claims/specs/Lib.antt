@@ -5,9 +5,11 @@ pub mod Typed
 pub mod Slips
 pub mod Layouts
 pub mod Modes
+pub mod LetterCase
 pub mod Demands
 pub mod Lessons
 pub mod TypedCases
 pub mod SlipCases
 pub mod IdCases
+pub mod LetterCases
 pub mod Cases

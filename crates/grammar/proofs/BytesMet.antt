@@ -9,12 +9,12 @@ use mathlib.Core.Bool.{Bool, true, false, not, _&&_, _||_, cond}
 use mathlib.Core.List.{List, [], _∷_, _++_}
 use native.Mathlib.Omega.{arith}
 use lib.Dec.{eqb, leb}
-use lib.ListN.{length, length-append}
+use lib.ListN.{length, length-append, length-map}
 use borrow.Author.Tests.{leb-true, le-leb, eqb-true, eqb-false, ne-eqb, not-true}
 use Rattle.lists.specs.Lists.{none?, all?, has?, upTo, past}
 use Rattle.lists.proofs.Cases.{either-bool, no-both, never, and-left, and-right}
 use Rattle.lists.proofs.Lists.{append-nil, Free, free-more, has-seam, has-none, up-seam, past-seam}
-use Rattle.labels.specs.Label.{digit?, labelForm?}
+use Rattle.labels.specs.Label.{digit?, capital, capitals, labelForm?}
 use Rattle.lines.specs.Event.{Event, begins, ends, faulty}
 use Rattle.lines.specs.Line.{idForm?, idRange?, value, valueFrom, endEvent, plainEvent, labelEvent, beginEvent, bodyEvent, eventOf}
 use Rattle.lines.specs.Render.{labelPart}
@@ -112,17 +112,17 @@ part-free (b ∷ s) f = ((λ e. omega arith), f)
 not-empty : (b : ℕ) (s : List ℕ) → b ∷ s ≢ []
 not-empty b s e = never (cc)
 
-part-length : (s : List ℕ) → (s ≢ [] → IsLabel s) → length (labelPart s) ≤ 25
+part-length : (s : List ℕ) → (capitals s ≢ [] → IsLabel (capitals s)) → length (labelPart s) ≤ 25
 part-length [] h = omega arith
-part-length (b ∷ s) h = omega (arith, h (not-empty b s) .few)
+part-length (b ∷ s) h = omega (arith, length-map (b ∷ s) capital, h (not-empty (capital b) (capitals s)) .few)
 
-label-test : (s : List ℕ) → (s ≢ [] → IsLabel s) → none? s || labelForm? s ≡ true
+label-test : (s : List ℕ) → (capitals s ≢ [] → IsLabel (capitals s)) → none? s || labelForm? (capitals s) ≡ true
 label-test [] h = refl
-label-test (b ∷ s) h = form-is-label (b ∷ s) .1 (h (not-empty b s))
+label-test (b ∷ s) h = form-is-label (capitals (b ∷ s)) .1 (h (not-empty (capital b) (capitals s)))
 
-wrong-test : (s : List ℕ) → 1 ≤ length s → WrongLabel s → none? s || labelForm? s ≡ false
+wrong-test : (s : List ℕ) → 1 ≤ length s → WrongLabel (capitals s) → none? s || labelForm? (capitals s) ≡ false
 wrong-test [] some w = absurd (omega arith)
-wrong-test (b ∷ s) some w = no-form-wrong (b ∷ s) some .1 w
+wrong-test (b ∷ s) some w = no-form-wrong (capitals (b ∷ s)) (omega arith) .1 w
 
 -- ── what is answered of a line of a form ──
 line-says : (a : List ℕ) → Free 10 a → length (a ++ (10 ∷ [])) ≤ 40 → eventOf (a ++ (10 ∷ [])) ≡ bodyEvent a
@@ -130,7 +130,7 @@ unfolding eventOf
 line-says a f h = simp (has-seam 10 a [], past-seam 10 a [] f, up-seam 10 a [] f, le-leb (length (a ++ (10 ∷ []))) 40 h)
 
 beginAnswer : List ℕ → List ℕ → Event
-beginAnswer ds s = cond (idRange? ds) (cond (none? s || labelForm? s) (begins (value ds) s) (faulty 13)) (faulty 12)
+beginAnswer ds s = cond (idRange? ds) (cond (none? s || labelForm? (capitals s)) (begins (value ds) (capitals s)) (faulty 13)) (faulty 12)
 
 endAnswer : List ℕ → Event
 endAnswer ds = cond (idRange? ds) (ends (value ds)) (faulty 12)
@@ -165,9 +165,9 @@ module _ (ds : List ℕ) (w : IdForm ds) where
 
 never-11 : (l ds s : List ℕ) → Formed l ds s → eventOf l ≡ faulty 11 → ⊥
 unfolding beginAnswer endAnswer
-never-11 l ds s (as-begin b w short) e = go (idRange? ds) (none? s || labelForm? s) (sym (begin-answers ds w l short s b) ∙ e)
+never-11 l ds s (as-begin b w short) e = go (idRange? ds) (none? s || labelForm? (capitals s)) (sym (begin-answers ds w l short s b) ∙ e)
   where
-    go : (x y : Bool) → cond x (cond y (begins (value ds) s) (faulty 13)) (faulty 12) ≡ faulty 11 → ⊥
+    go : (x y : Bool) → cond x (cond y (begins (value ds) (capitals s)) (faulty 13)) (faulty 12) ≡ faulty 11 → ⊥
     go true true e = never (cc)
     go true false e = let z : _≡_ {A = ℕ} 13 11 = cc in omega arith
     go false y e = let z : _≡_ {A = ℕ} 12 11 = cc in omega arith
@@ -256,12 +256,12 @@ module _ (l : List ℕ) where
   out-of-range ds s f e = no-range ds s f (λ r. no-both (sym (range-test ds r) ∙ e)) refl
 
   label-says : (ds s : List ℕ) → BeginForm l ds s → IdForm ds → length l ≤ 40 → IdRange ds
-      → Says l (cond (none? s || labelForm? s) (begins (value ds) s) (faulty 13))
-  label-says ds [] b w short r = record { digits = ds; form = b; id = w; range = r; is = refl; label = λ n. absurd (n refl) }
+      → Says l (cond (none? s || labelForm? (capitals s)) (begins (value ds) (capitals s)) (faulty 13))
+  label-says ds [] b w short r = record { digits = ds; written = []; form = b; id = w; range = r; is = refl; capital = refl; label = λ n. absurd (n refl) }
   label-says ds (x ∷ s) b w short r =
-      says-cond (labelForm? (x ∷ s)) _ _
-      (λ e. record { digits = ds; form = b; id = w; range = r; is = refl; label = λ _. form-is-label (x ∷ s) .0 e })
-      (λ e. no-label ds (x ∷ s) (as-begin b w short) r (omega arith) (no-form-wrong (x ∷ s) (omega arith) .0 e) refl)
+      says-cond (labelForm? (capitals (x ∷ s))) _ _
+      (λ e. record { digits = ds; written = x ∷ s; form = b; id = w; range = r; is = refl; capital = refl; label = λ _. form-is-label (capitals (x ∷ s)) .0 e })
+      (λ e. no-label ds (x ∷ s) (as-begin b w short) r (omega arith) (no-form-wrong (capitals (x ∷ s)) (omega arith) .0 e) refl)
 
   begin-says : (ds s : List ℕ) → BeginForm l ds s → IdForm ds → length l ≤ 40 → Says l (beginAnswer ds s)
   unfolding beginAnswer
@@ -286,12 +286,16 @@ module _ (l : List ℕ) where
       go (formless e) = subst (Says l) (sym e) (no-form (λ ds s f. never-11 l ds s f e) refl)
 
   -- ── and where the bytes are such, that is the event ──
+  labelled : (i : ℕ) (s : List ℕ) (b : Begins l i s) → capitals (b .written) ≢ [] → IsLabel (capitals (b .written))
+  labelled i s b = subst (λ (z : List ℕ). z ≢ [] → IsLabel z) (sym (b .capital)) (b .label)
+
   begins-short : (i : ℕ) (s : List ℕ) → Begins l i s → length l ≤ 40
   begins-short i s b =
       let ds = b .digits in
       let few = id-few ds (b .id) (b .range) in
-      let long = part-length s (b .label) in
-      omega (arith, ap length (b .form .0), length-append (66 ∷ 32 ∷ ds ++ labelPart s) (10 ∷ []), length-append ds (labelPart s))
+      let r = b .written in
+      let long = part-length r (labelled i s b) in
+      omega (arith, ap length (b .form .0), length-append (66 ∷ 32 ∷ ds ++ labelPart r) (10 ∷ []), length-append ds (labelPart r))
 
   ends-short : (i : ℕ) → Ends l i → length l ≤ 40
   ends-short i b =
@@ -303,7 +307,7 @@ module _ (l : List ℕ) where
   is-12 ds s (as-begin b w short) n = begin-answers ds w l short s b ∙ simp (no-range-test ds n)
   is-12 ds s (as-end f e w short) n = end-answers ds w l short f ∙ simp (no-range-test ds n)
 
-  is-13 : (ds s : List ℕ) → Formed l ds s → IdRange ds → 1 ≤ length s → WrongLabel s → eventOf l ≡ faulty 13
+  is-13 : (ds s : List ℕ) → Formed l ds s → IdRange ds → 1 ≤ length s → WrongLabel (capitals s) → eventOf l ≡ faulty 13
   unfolding beginAnswer
   is-13 ds s (as-begin b w short) r some wrong = begin-answers ds w l short s b ∙ simp (range-test ds r, wrong-test s some wrong)
   is-13 ds s (as-end f e w short) r some wrong = absurd (omega (arith, ap length e))
@@ -311,8 +315,8 @@ module _ (l : List ℕ) where
   says-event : (e : Event) → Says l e → eventOf l ≡ e
   unfolding beginAnswer endAnswer
   says-event (begins i s) b =
-      begin-answers (b .digits) (b .id) l (begins-short i s b) s (b .form)
-      ∙ simp (range-test (b .digits) (b .range), label-test s (b .label)) (ap (λ (n : ℕ). begins n s) (b .is))
+      begin-answers (b .digits) (b .id) l (begins-short i s b) (b .written) (b .form)
+      ∙ simp (range-test (b .digits) (b .range), label-test (b .written) (labelled i s b)) (ap₂ begins (b .is) (b .capital))
   says-event (ends i) b =
       end-answers (b .digits) (b .id) l (ends-short i b) (b .form) ∙ simp (range-test (b .digits) (b .range)) (ap ends (b .is))
   says-event (faulty c) (no-form n e) = go (kind l) ∙ ap faulty (sym e)

@@ -17,6 +17,7 @@ use Rattle.rules.specs.Limits.{variables}
 use Rattle.rules.specs.Table.{fieldsOk}
 use Rattle.rules.specs.declared.Node.{Node}
 use Rattle.rules.proofs.Nodes.{fields-and, fields-not, fields-some, fields-has, fields-pair, fields-zero, fields-none}
+use Rattle.labels.specs.Label.{capitals}
 use Rattle.grammar.specs.Written.{IsLabel}
 use Rattle.grammar.specs.Layout.{labelsPart, nodesPart, RightLabels, InRange, and, not, some, has-label, between}
 
@@ -77,14 +78,14 @@ module _ {A : Type 0} (d : A) (xs : List A) (x : A) where
       (λ e. subst (λ (k : ℕ). P k (getD (xs ++ (x ∷ [])) k d)) (sym e) (subst (P (length xs)) (sym more-last) last))
       (λ n. let k : i < length xs = omega (arith, more-length) in subst (P i) (sym (more-before i k)) (each i k))
 
-pub right-more : (ls : List (List ℕ)) (l : List ℕ) → RightLabels ls → IsLabel l → ((i : ℕ) → i < length ls → getD ls i [] ≢ l) → RightLabels (ls ++ (l ∷ []))
+pub right-more : (ls : List (List ℕ)) (l : List ℕ) → RightLabels ls → IsLabel (capitals l) → ((i : ℕ) → i < length ls → capitals (getD ls i []) ≢ capitals l) → RightLabels (ls ++ (l ∷ []))
 right-more ls l r o new =
     record {
-      each = more-each [] ls l (λ _ x. IsLabel x) (r .each) o;
+      each = more-each [] ls l (λ _ x. IsLabel (capitals x)) (r .each) o;
       none-twice = λ i j h k.
-          more-each [] ls l (λ j x. i < j → getD (ls ++ (l ∷ [])) i [] ≢ x)
-          (λ j k h e. r .none-twice i j h k (sym (more-before [] ls l i (omega arith)) ∙ e))
-          (λ h e. new i h (sym (more-before [] ls l i h) ∙ e)) j k h;
+          more-each [] ls l (λ j x. i < j → capitals (getD (ls ++ (l ∷ [])) i []) ≢ capitals x)
+          (λ j k h e. r .none-twice i j h k (ap capitals (sym (more-before [] ls l i (omega arith))) ∙ e))
+          (λ h e. new i h (ap capitals (sym (more-before [] ls l i h)) ∙ e)) j k h;
     }
 
 -- of labels that are right, the one behind ls is a label and none of ls
@@ -92,11 +93,11 @@ module _ (ls : List (List ℕ)) (l : List ℕ) (more : List (List ℕ)) (r : Rig
   here : length ls < length (ls ++ (l ∷ more))
   here = omega (arith, length-append ls (l ∷ more))
 
-  pub right-next : IsLabel l
-  right-next = subst IsLabel (getD-append-seam ls l more []) (r .each (length ls) here)
+  pub right-next : IsLabel (capitals l)
+  right-next = subst (λ (x : List ℕ). IsLabel (capitals x)) (getD-append-seam ls l more []) (r .each (length ls) here)
 
-  pub right-new : (i : ℕ) → i < length ls → getD ls i [] ≢ l
-  right-new i h e = r .none-twice i (length ls) h here (List·getD-append ls (l ∷ more) [] i h ∙ (e ∙ sym (getD-append-seam ls l more [])))
+  pub right-new : (i : ℕ) → i < length ls → capitals (getD ls i []) ≢ capitals l
+  right-new i h e = r .none-twice i (length ls) h here (ap capitals (List·getD-append ls (l ∷ more) [] i h) ∙ (e ∙ ap capitals (sym (getD-append-seam ls l more []))))
 
 -- ── one node more ──
 pub nodes-more : (xs : List Node) (x : Node) → nodesPart (xs ++ (x ∷ [])) ≡ nodesPart xs ++ (x .kind ∷ x .a ∷ x .b ∷ [])

@@ -7,14 +7,14 @@ use mathlib.Core.Bool.{Bool, true, false, _||_}
 use mathlib.Core.List.{List, [], _∷_, _++_, append-assoc}
 use native.Mathlib.Omega.{arith}
 use native.Mathlib.Numerals.{add-one}
-use lib.ListN.{length, getD, take, drop}
+use lib.ListN.{length, getD, take, drop, length-map}
 use Rattle.lists.specs.Lists.{bytes, same?, anyBelow}
 use Rattle.lists.proofs.Cases.{either-bool}
 use Rattle.lists.proofs.Lists.{append-nil, same-refl, same-eq}
 use Rattle.lists.proofs.Below.{found-yes, found-at}
-use Rattle.labels.specs.Label.{labelForm?}
+use Rattle.labels.specs.Label.{capital, capitals, labelForm?}
 use Rattle.rules.specs.Parts.{byte, labelCount, readMark, readVersion, readHead}
-use Rattle.rules.specs.Labels.{labelStart, bytesFrom, labelBytes, listed, readLabel, readLabels}
+use Rattle.rules.specs.Labels.{labelStart, labelFrom, labelBytes, listed, readLabel, readLabels}
 use Rattle.rules.specs.Table.{nodeAt, fieldsOk, readNode, readNodes}
 use Rattle.rules.specs.declared.Node.{Node}
 use Rattle.rules.specs.declared.Read.the-variants.{At, Refused}
@@ -56,7 +56,7 @@ module _ (file : List ℕ) (k : ℕ) (more : List ℕ) (is : file ≡ front k ++
 pub record LabelsTo (file : List ℕ) (ls : List (List ℕ)) (p : ℕ) (rest : List ℕ) : Type 0 where
   pub read : readLabels file (length ls) ≡ At p
   pub place : p ≡ labelStart file (length ls)
-  pub bytes : (i : ℕ) → i < length ls → labelBytes file i ≡ getD ls i []
+  pub bytes : (i : ℕ) → i < length ls → labelBytes file i ≡ capitals (getD ls i [])
   pub stands : Stands file p rest
 
 -- a label is listed exactly if it is one of those that are read
@@ -66,17 +66,17 @@ listed-any file zero l = refl
 listed-any file (suc n) l = ap (λ (b : Bool). b || same? (labelBytes file n) l) (listed-any file n l)
 
 module _ {file : List ℕ} {ls : List (List ℕ)} {p : ℕ} {rest : List ℕ} (t : LabelsTo file ls p rest) (l : List ℕ) where
-  pub listed-yes : (i : ℕ) → i < length ls → getD ls i [] ≡ l → listed file (length ls) l ≡ true
+  pub listed-yes : (i : ℕ) → i < length ls → capitals (getD ls i []) ≡ l → listed file (length ls) l ≡ true
   listed-yes i h e =
       listed-any file (length ls) l
       ∙ found-yes (λ i. same? (labelBytes file i) l) (length ls) i h (ap (λ (s : List ℕ). same? s l) (t .bytes i h ∙ e) ∙ same-refl l)
 
-  pub listed-at : listed file (length ls) l ≡ true → (i : ℕ) × (i < length ls) × (getD ls i [] ≡ l)
+  pub listed-at : listed file (length ls) l ≡ true → (i : ℕ) × (i < length ls) × (capitals (getD ls i []) ≡ l)
   listed-at e =
       let w = found-at (λ i. same? (labelBytes file i) l) (length ls) (sym (listed-any file (length ls) l) ∙ e) in
       (w .0, w .1, sym (t .bytes (w .0) (w .1)) ∙ same-eq _ l (w .2))
 
-  pub listed-no : ((i : ℕ) → i < length ls → getD ls i [] ≢ l) → listed file (length ls) l ≡ false
+  pub listed-no : ((i : ℕ) → i < length ls → capitals (getD ls i []) ≢ l) → listed file (length ls) l ≡ false
   listed-no new = either-bool (listed file (length ls) l) (λ e. let w = listed-at e in absurd (new (w .0) (w .1) (w .2))) (λ e. e)
 
 -- the next label is cut before or in its bytes, or its length byte is wrong
@@ -106,8 +106,8 @@ module _ {file : List ℕ} {ls : List (List ℕ)} {p : ℕ} (l rest : List ℕ) 
   size : byte file p ≡ length l
   size = stands-byte (t .stands)
 
-  text : bytesFrom file p ≡ l
-  text = ap (λ (n : ℕ). take n (drop (p + 1) file)) size ∙ stands-first l rest (stands-next (t .stands))
+  text : labelFrom file p ≡ capitals l
+  text = ap capitals (ap (λ (n : ℕ). take n (drop (p + 1) file)) size ∙ stands-first l rest (stands-next (t .stands)))
 
   behind : Stands file (p + 1 + length l) rest
   behind = stands-past l rest (stands-next (t .stands))
@@ -115,21 +115,21 @@ module _ {file : List ℕ} {ls : List (List ℕ)} {p : ℕ} (l rest : List ℕ) 
   within : length file ≡ p + 1 + length l + length rest
   within = behind .size
 
-  pub wrong-form : labelForm? l ≡ false → Refused 5 ≡ readLabel file (length ls) p
+  pub wrong-form : labelForm? (capitals l) ≡ false → Refused 5 ≡ readLabel file (length ls) p
   wrong-form e =
       label-letter file (length ls) p (omega (arith, within)) (omega (arith, within)) (omega (arith, size)) (omega (arith, size)) (omega (arith, size, within)) false
       (sym (ap labelForm? (bytes-part file p ∙ text) ∙ e)) refl
 
-  module _ (form : labelForm? l ≡ true) where
-    says : true ≡ labelForm? (take (p + 1 + byte file p - (p + 1)) (drop (p + 1) file))
+  module _ (form : labelForm? (capitals l) ≡ true) where
+    says : true ≡ labelForm? (capitals (take (p + 1 + byte file p - (p + 1)) (drop (p + 1) file)))
     says = sym (ap labelForm? (bytes-part file p ∙ text) ∙ form)
 
-    pub twice-listed : listed file (length ls) l ≡ true → Refused 5 ≡ readLabel file (length ls) p
+    pub twice-listed : listed file (length ls) (capitals l) ≡ true → Refused 5 ≡ readLabel file (length ls) p
     twice-listed e =
         label-twice file (length ls) p (omega (arith, within)) (omega (arith, within)) (omega (arith, size)) (omega (arith, size)) (omega (arith, size, within)) true says
         true refl (sym (ap (listed file (length ls)) text ∙ e)) refl
 
-    module _ (new : listed file (length ls) l ≡ false) where
+    module _ (new : listed file (length ls) (capitals l) ≡ false) where
       taken : At (p + 1 + length l) ≡ readLabel file (length ls) p
       taken =
           ap (λ (n : ℕ). At (p + 1 + n)) (sym size)
@@ -144,7 +144,7 @@ module _ {file : List ℕ} {ls : List (List ℕ)} {p : ℕ} (l rest : List ℕ) 
           record {
             read = subst (λ (n : ℕ). readLabels file n ≡ At (p + 1 + length l)) one-more (labels-next file (length ls) p _ (t .read) taken _ refl);
             place = ap (λ (n : ℕ). p + 1 + n) (sym size) ∙ (place-next file (length ls) p (t .place) ∙ ap (labelStart file) one-more);
-            bytes = more-each [] ls l (λ i x. labelBytes file i ≡ x) (t .bytes) (ap (bytesFrom file) (sym (t .place)) ∙ text);
+            bytes = more-each [] ls l (λ i x. labelBytes file i ≡ capitals x) (t .bytes) (ap (labelFrom file) (sym (t .place)) ∙ text);
             stands = behind;
           }
 
@@ -155,8 +155,8 @@ labels-from {file} {p} done [] rest t r = (p, subst (λ (z : List (List ℕ)). L
 labels-from {file} {p} done (l ∷ ls) rest t r =
     let o = right-next done l ls r in
     let u : LabelsTo file done p (length l ∷ (l ++ (labelsPart ls ++ rest))) = subst (λ (z : List ℕ). LabelsTo file done p (length l ∷ z)) (append-assoc l (labelsPart ls) rest) t in
-    let new = listed-no u l (right-new done l ls r) in
-    let v = one-label-more l (labelsPart ls ++ rest) u (o .some) (o .few) (form-is-label l .1 o) new in
+    let new = listed-no u (capitals l) (right-new done l ls r) in
+    let v = one-label-more l (labelsPart ls ++ rest) u (omega (arith, o .some, length-map l capital)) (omega (arith, o .few, length-map l capital)) (form-is-label (capitals l) .1 o) new in
     let same : done ++ (l ∷ []) ++ ls ≡ done ++ (l ∷ ls) = append-assoc done (l ∷ []) ls in
     let w = labels-from (done ++ (l ∷ [])) ls rest v (subst RightLabels (sym same) r) in
     (w .0, subst (λ (z : List (List ℕ)). LabelsTo file z (w .0) rest) same (w .1))

@@ -6,12 +6,12 @@ use mathlib.Core.Logic.{_≢_, _↔_}
 use mathlib.Core.Bool.{true}
 use mathlib.Core.List.{List, [], _∷_, _++_, append-assoc}
 use native.Mathlib.Omega.{arith}
-use lib.ListN.{length, getD, take, drop, take-append-drop}
+use lib.ListN.{length, getD, take, drop, take-append-drop, length-map}
 use lib.Seq.{length-take-le}
 use Rattle.lists.specs.Lists.{bytes, same?}
 use Rattle.lists.proofs.Cases.{either-eq, either-lt, either-bool, no-both}
 use Rattle.lists.proofs.Lists.{same-eq}
-use Rattle.labels.specs.Label.{labelForm?}
+use Rattle.labels.specs.Label.{capital, capitals, labelForm?}
 use Rattle.rules.specs.Labels.{listed}
 use Rattle.rules.specs.Table.{fieldsOk}
 use Rattle.rules.specs.Rules.{ruleOf}
@@ -31,7 +31,7 @@ use Rattle.grammar.proofs.RuleRefused.{met-refused, once, closed, flat,
 joined : (p s t r : List ℕ) → p ++ s ++ (t ++ r) ≡ p ++ (s ++ t) ++ r
 joined p s t r = sym (append-assoc (p ++ s) t r) ∙ ap (λ (z : List ℕ). z ++ r) (append-assoc p s t)
 
-up-to-next-label : {file : List ℕ} {k : ℕ} {ls : List (List ℕ)} (l rest : List ℕ) → UpToLabel file k ls (length l ∷ (l ++ rest)) → IsLabel l → ((i : ℕ) → i < length ls → getD ls i [] ≢ l)
+up-to-next-label : {file : List ℕ} {k : ℕ} {ls : List (List ℕ)} (l rest : List ℕ) → UpToLabel file k ls (length l ∷ (l ++ rest)) → IsLabel (capitals l) → ((i : ℕ) → i < length ls → capitals (getD ls i []) ≢ capitals l)
     → UpToLabel file k (ls ++ (l ∷ [])) rest
 up-to-next-label {k = k} {ls = ls} l rest u o new =
     record {
@@ -116,12 +116,12 @@ settle-label : {file : List ℕ} {k : ℕ} {ls : List (List ℕ)} (l rest : List
     → (UpToLabel file k (ls ++ (l ∷ [])) rest → MetOrTaken file) → MetOrTaken file
 settle-label {file} {k} {ls} l rest u h low high next =
     let t = labels-to u .1 in
-    either-bool (labelForm? l)
+    either-bool (labelForm? (capitals l))
     (λ f.
-    either-bool (listed file (length ls) l)
-    (λ e. let w = listed-at t l e in met 5 (label k ls l rest u h low high (twice (w .0) (w .1) (w .2)) refl))
-    (λ e. next (up-to-next-label l rest u (form-is-label l .0 f) (λ i j s. no-both (sym (listed-yes t l i j s) ∙ e)))))
-    (λ f. met 5 (label k ls l rest u h low high (wrong (no-form-wrong l low .0 f)) refl))
+    either-bool (listed file (length ls) (capitals l))
+    (λ e. let w = listed-at t (capitals l) e in met 5 (label k ls l rest u h low high (twice (w .0) (w .1) (w .2)) refl))
+    (λ e. next (up-to-next-label l rest u (form-is-label (capitals l) .0 f) (λ i j s. no-both (sym (listed-yes t (capitals l) i j s) ∙ e)))))
+    (λ f. met 5 (label k ls l rest u h low high (wrong (no-form-wrong (capitals l) (omega (arith, low, length-map l capital)) .0 f)) refl))
 
 -- d labels are left
 settle-labels : {file : List ℕ} (d k : ℕ) (ls : List (List ℕ)) (rest : List ℕ) → UpToLabel file k ls rest → length ls + d ≡ k → MetOrTaken file

@@ -6,10 +6,10 @@ use mathlib.Core.Logic.{_≢_, _↔_}
 use mathlib.Core.Bool.{Bool, true, false}
 use mathlib.Core.List.{List, [], _∷_, _++_, append-assoc}
 use native.Mathlib.Omega.{arith}
-use lib.ListN.{length}
+use lib.ListN.{length, length-map}
 use Rattle.lists.specs.Lists.{bytes}
 use Rattle.lists.proofs.Cases.{either-eq, either-bool}
-use Rattle.labels.specs.Label.{labelForm?}
+use Rattle.labels.specs.Label.{capital, capitals, labelForm?}
 use Rattle.rules.specs.Formula.{noScope, scoped, shallow}
 use Rattle.rules.specs.Parts.{byte, labelCount, readMark, readVersion, readLabelCount, readHead, readNodeCount}
 use Rattle.rules.specs.Labels.{readLabel, readLabels}
@@ -205,15 +205,15 @@ module _ {file : List ℕ} {ls : List (List ℕ)} {xs : List Node} (u : UpToNode
 
 -- ── a file that meets a refusal is refused with it ──
 module _ {file : List ℕ} {k : ℕ} {ls : List (List ℕ)} (l rest : List ℕ) (u : UpToLabel file k ls (length l ∷ (l ++ rest))) (h : length ls < k) (low : 1 ≤ length l) (high : length l ≤ 24) where
-  form-refuses : labelForm? l ≡ false → Refuses file 5
+  form-refuses : labelForm? (capitals l) ≡ false → Refuses file 5
   form-refuses e = let t = labels-to u in label-refuses u 5 (t .0) (t .1) h (wrong-form l rest (t .1) low high e)
 
   bytes-refuse : WrongBytes ls l → Refuses file 5
-  bytes-refuse (wrong w) = form-refuses (no-form-wrong l low .1 w)
+  bytes-refuse (wrong w) = form-refuses (no-form-wrong (capitals l) (omega (arith, low, length-map l capital)) .1 w)
   bytes-refuse (twice i j e) =
       let t = labels-to u in
-      either-bool (labelForm? l)
-      (λ f. label-refuses u 5 (t .0) (t .1) h (twice-listed l rest (t .1) low high f (listed-yes (t .1) l i j e)))
+      either-bool (labelForm? (capitals l))
+      (λ f. label-refuses u 5 (t .0) (t .1) h (twice-listed l rest (t .1) low high f (listed-yes (t .1) (capitals l) i j e)))
       form-refuses
 
 length-refuses : {file : List ℕ} {k n : ℕ} {ls : List (List ℕ)} {rest : List ℕ} → UpToLabel file k ls (n ∷ rest) → length ls < k → WrongLength n → Refuses file 5

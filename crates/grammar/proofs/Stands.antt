@@ -8,6 +8,7 @@ use mathlib.Core.List.{List, []}
 use native.Mathlib.Omega.{arith}
 use lib.ListN.{length, getD}
 use Rattle.lists.proofs.Cases.{either-eq, either-bool, no-both}
+use Rattle.labels.specs.Label.{capitals}
 use Rattle.rules.specs.Formula.{Pairing, before, overlaps, includes, same, Formula, both, neg, exists, has, pair}
 use Rattle.rules.specs.Labels.{labelBytes}
 use Rattle.rules.specs.Table.{pairingOf, nodeAt, formulaAt}
@@ -26,7 +27,7 @@ use Rattle.grammar.proofs.RuleMet.{MetOrTaken, met, taken, settled}
 
 -- ── a node of a right table stands for its formula ──
 module _ (file : List ℕ) (p : ℕ) (ls : List (List ℕ)) (xs : List Node) (agree : (i : ℕ) → i < length xs → nodeAt file p i ≡ nodeOf xs i) (right : RightNodes (length ls) xs)
-    (listed : (i : ℕ) → i < length ls → labelBytes file i ≡ getD ls i []) where
+    (listed : (i : ℕ) → i < length ls → labelBytes file i ≡ capitals (getD ls i [])) where
   -- the kinds 5 to 8
   pair-stands : (n : ℕ) → 5 ≤ nodeOf xs n .kind → nodeOf xs n .kind ≤ 8 → Stands ls xs n (pair (pairingOf (nodeOf xs n .kind)) (nodeOf xs n .a) (nodeOf xs n .b))
   unfolding Stands

@@ -5,6 +5,7 @@ use mathlib.Core.Logic.{_≢_}
 use mathlib.Core.List.{List, [], _++_}
 use lib.ListN.{length, getD}
 use Rattle.lists.specs.Lists.{bytes}
+use Rattle.labels.specs.Label.{capitals}
 use Rattle.lines.specs.Line.{value}
 use Rattle.lines.specs.Render.{labelPart}
 use Rattle.grammar.specs.Written.{EachByte, Digit, IsLabel}
@@ -34,13 +35,16 @@ pub data Formed (l ds s : List ℕ) : Type 0 where
   as-begin : BeginForm l ds s → IdForm ds → length l ≤ 40 → Formed l ds s
   as-end : EndForm l ds → s ≡ [] → IdForm ds → length l ≤ 40 → Formed l ds s
 
--- a line that is right in itself: a begin line of the id i with the label s, and an end line of the id i
+-- a line that is right in itself: a begin line of the id i with a label whose capitals are s, and an end line of the
+-- id i. "Looking up a label must treat a to z as A to Z"
 pub record Begins (l : List ℕ) (i : ℕ) (s : List ℕ) : Type 0 where
   pub digits : List ℕ
-  pub form : BeginForm l digits s
+  pub written : List ℕ
+  pub form : BeginForm l digits written
   pub id : IdForm digits
   pub range : IdRange digits
   pub is : value digits ≡ i
+  pub capital : capitals written ≡ s
   pub label : s ≢ [] → IsLabel s
 
 pub record Ends (l : List ℕ) (i : ℕ) : Type 0 where

@@ -5,6 +5,7 @@ use mathlib.Core.Logic.{_≢_}
 use mathlib.Core.List.{List, [], _∷_, _++_}
 use lib.ListN.{length, getD}
 use Rattle.lists.specs.Lists.{bytes}
+use Rattle.labels.specs.Label.{capitals}
 use Rattle.rules.specs.declared.Node.{Node}
 use Rattle.grammar.specs.Written.{IsLabel}
 use Rattle.grammar.specs.Naming.{nodeOf}
@@ -23,10 +24,10 @@ abbrev pub nodesPart : List Node → List ℕ
 nodesPart [] = []
 nodesPart (x ∷ xs) = x .kind ∷ x .a ∷ x .b ∷ nodesPart xs
 
--- labels that are right: each is a label, "none listed twice"
+-- labels that are right: each is a label, "none listed twice", of which their capitals decide
 pub record RightLabels (ls : List (List ℕ)) : Type 0 where
-  pub each : (i : ℕ) → i < length ls → IsLabel (getD ls i [])
-  pub none-twice : (i j : ℕ) → i < j → j < length ls → getD ls i [] ≢ getD ls j []
+  pub each : (i : ℕ) → i < length ls → IsLabel (capitals (getD ls i []))
+  pub none-twice : (i j : ℕ) → i < j → j < length ls → capitals (getD ls i []) ≢ capitals (getD ls j [])
 
 -- The table of kinds, for node n of a file with k labels. "A child is the number of an earlier node. Variables are 0
 -- to 3."

@@ -7,6 +7,7 @@ use mathlib.Core.Logic.{_≢_}
 use mathlib.Core.List.{List, [], _∷_, _++_}
 use lib.ListN.{length, getD}
 use Rattle.lists.specs.Lists.{bytes}
+use Rattle.labels.specs.Label.{capitals}
 use Rattle.rules.specs.declared.Node.{Node}
 use Rattle.grammar.specs.Written.{WrongLabel}
 use Rattle.grammar.specs.Naming.{NamedOnce, AllNamedOnce, Uses, Bound, AllBound, FiveNested}
@@ -17,10 +18,10 @@ pub data WrongLength (n : ℕ) : Type 0 where
   zero : n ≡ 0 → WrongLength n
   above : 24 < n → WrongLength n
 
--- "or byte, or listed twice"
+-- "or byte, or listed twice"; "5 does for two labels in a rule file's list that differ only in case"
 pub data WrongBytes (ls : List (List ℕ)) (l : List ℕ) : Type 0 where
-  wrong : WrongLabel l → WrongBytes ls l
-  twice : (i : ℕ) → i < length ls → getD ls i [] ≡ l → WrongBytes ls l
+  wrong : WrongLabel (capitals l) → WrongBytes ls l
+  twice : (i : ℕ) → i < length ls → capitals (getD ls i []) ≡ capitals l → WrongBytes ls l
 
 -- "node count 1 to 64"
 pub data WrongCount (n : ℕ) : Type 0 where

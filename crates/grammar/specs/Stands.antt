@@ -11,12 +11,13 @@ use Prim.Native.Nat.{ℕ, suc, _-_, _<_}
 use mathlib.Core.Path.{_≡_}
 use mathlib.Core.List.{List, []}
 use lib.ListN.{length, getD}
+use Rattle.labels.specs.Label.{capitals}
 use Rattle.rules.specs.declared.Node.{Node}
 use Rattle.rules.specs.Formula.{before, overlaps, includes, same, Formula, both, neg, exists, has, pair}
 use Rattle.grammar.specs.Naming.{nodeOf, AllNamedOnce, OnePath, AllBound, FiveNested}
 use Rattle.grammar.specs.Layout.{UpToNode}
 
--- node n of the table xs stands for the formula; ls are the file's labels
+-- node n of the table xs stands for the formula, which has the capitals of labels; ls are the file's labels
 unfoldable pub Stands : List (List ℕ) → List Node → ℕ → Formula → Type 0
 -- 1 and: child, child
 Stands ls xs n (both f g) =
@@ -27,7 +28,7 @@ Stands ls xs n (neg f) = (nodeOf xs n .kind ≡ 2) × Stands ls xs (nodeOf xs n 
 Stands ls xs n (exists v f) =
     (nodeOf xs n .kind ≡ 3) × (nodeOf xs n .a ≡ v) × Stands ls xs (nodeOf xs n .b) f
 -- 4 has label: variable, place in the file's label list, from 0
-Stands ls xs n (has v l) = (nodeOf xs n .kind ≡ 4) × (nodeOf xs n .a ≡ v) × (getD ls (nodeOf xs n .b) [] ≡ l)
+Stands ls xs n (has v l) = (nodeOf xs n .kind ≡ 4) × (nodeOf xs n .a ≡ v) × (capitals (getD ls (nodeOf xs n .b) []) ≡ l)
 -- 5, 6, 7 before, overlaps, includes: variable, variable
 Stands ls xs n (pair before v w) = (nodeOf xs n .kind ≡ 5) × (nodeOf xs n .a ≡ v) × (nodeOf xs n .b ≡ w)
 Stands ls xs n (pair overlaps v w) = (nodeOf xs n .kind ≡ 6) × (nodeOf xs n .a ≡ v) × (nodeOf xs n .b ≡ w)

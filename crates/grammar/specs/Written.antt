@@ -1,4 +1,4 @@
--- Which bytes are a label, said of each byte.
+-- Which bytes are the capitals of a label, said of each byte.
 use Prim.Native.Nat.{ℕ, _≤_, _<_}
 use mathlib.Core.Path.{_≡_}
 use mathlib.Core.List.{List}
@@ -18,7 +18,8 @@ pub data LabelByte (b : ℕ) : Type 0 where
   digit : Digit b → LabelByte b
   underscore : b ≡ 95 → LabelByte b
 
--- "A label is 1 to 24 bytes from A to Z, 0 to 9 and underscore."
+-- "A label is 1 to 24 bytes from A to Z, 0 to 9 and underscore." Of a label that is written in a log, in a rule file or in a typed rule
+-- this is asked of its capitals: "treat a to z as A to Z".
 pub record IsLabel (s : List ℕ) : Type 0 where
   pub some : 1 ≤ length s
   pub few : length s ≤ 24

@@ -1,4 +1,5 @@
 pub mod Letters
+pub mod Capitals
 pub mod Form
 pub mod Hash
 pub mod Same

@@ -1,12 +1,12 @@
 -- Laws of labels: equality, and the values that hold one.
 use Prim.Native.Nat.{ℕ, zero, suc, _+_, _-_, _<_, _≤_}
-use mathlib.Core.Path.{_≡_, refl, ap, sym, _∙_}
+use mathlib.Core.Path.{_≡_, refl, ap, ap₂, sym, _∙_}
 use mathlib.Core.List.{List, [], _∷_, _++_}
 use mathlib.Core.Bool.{Bool, true, false, _&&_}
 use native.Mathlib.Omega.{arith}
 use native.Mathlib.Numerals.{add-one}
 use lib.Dec.{eqb, leb, ltb}
-use lib.ListN.{length, getD, set, take, drop, replicate, drop-of-length-le, length-take}
+use lib.ListN.{length, getD, set, take, drop, replicate, drop-of-length-le, length-take, length-map}
 use lib.Seq.{drop-cons, length-take-le, take-append-seam, take-suc, take-all}
 use borrow.Author.Tests.{eq-eqb, ne-eqb, le-leb, lt-leb, leb-true, lt-ltb, le-ltb}
 use Rattle.lists.specs.Lists.{pad, all?, same?}
@@ -15,7 +15,8 @@ use Rattle.lists.proofs.Cases.{either-eq, either-lt, either-bool, no-both, and-
 use Rattle.lists.proofs.Tells.{tell-no}
 use Rattle.lists.proofs.Lists.{same-refl, same-eq, set-pad}
 use Rattle.labels.specs.declared.Label.{Label}
-use Rattle.labels.specs.Label.{letter?, labelOf, text, noLabel, equalLabel?, soundFrom, byteSound, sound?}
+use Rattle.labels.specs.Label.{letter?, capital, capitals, labelOf, text, noLabel, equalLabel?, soundFrom, byteSound, sound?}
+use Rattle.labels.proofs.Capitals.{capitals-at}
 use Rattle.labels.proofs.Form.{label?}
 
 -- ── equality ──
@@ -177,15 +178,21 @@ sound-text x e =
     let k : length (text x) ≤ 24 = simp length-take (omega arith) in
     simp (le-leb (length (text x)) 24 k) (sound-letters (x .length) (x .bytes) (and-right (leb (x .length) 24) (soundFrom (x .length) (x .bytes)) e))
 
--- ── a byte string copied ──
-pub copy-next : (s t : List ℕ) (i : ℕ) → t ≡ pad 0 24 (take i s) → i < length s → length s ≤ 24 → set t i (getD s i 0) ≡ pad 0 24 (take (i + 1) s)
-copy-next s t i e h k =
-    let l : length (take i s) ≡ i = length-take-le i s (omega arith) in
-    let f : set (pad 0 24 (take i s)) (length (take i s)) (getD s i 0) ≡ pad 0 24 (take i s ++ (getD s i 0 ∷ [])) = set-pad 0 24 (take i s) (getD s i 0) (omega arith) in
-    ap (λ (x : List ℕ). set x i (getD s i 0)) e
-    ∙ (ap (λ (n : ℕ). set (pad 0 24 (take i s)) n (getD s i 0)) (sym l)
-    ∙ (f ∙ (ap (pad 0 24) (sym (take-suc s i 0 h)) ∙ ap (λ (n : ℕ). pad 0 24 (take n s)) (sym (add-one i)))))
+-- ── a byte string copied in capitals ──
+pub copy-next : (s t : List ℕ) (i c : ℕ) → t ≡ pad 0 24 (take i (capitals s)) → i < length s → length s ≤ 24 → c ≡ capital (getD s i 0) → set t i c ≡ pad 0 24 (take (i + 1) (capitals s))
+copy-next s t i c e h k q =
+    let u : List ℕ = capitals s in
+    let m : length u ≡ length s = length-map s capital in
+    let l : length (take i u) ≡ i = length-take-le i u (omega arith) in
+    let g : c ≡ getD u i 0 = q ∙ sym (capitals-at s i) in
+    let f : set (pad 0 24 (take i u)) (length (take i u)) (getD u i 0) ≡ pad 0 24 (take i u ++ (getD u i 0 ∷ [])) = set-pad 0 24 (take i u) (getD u i 0) (omega arith) in
+    ap₂ (λ (x : List ℕ) (b : ℕ). set x i b) e g
+    ∙ (ap (λ (n : ℕ). set (pad 0 24 (take i u)) n (getD u i 0)) (sym l)
+    ∙ (f ∙ (ap (pad 0 24) (sym (take-suc u i 0 (omega arith))) ∙ ap (λ (n : ℕ). pad 0 24 (take n u)) (sym (add-one i)))))
 
-pub copy-end : (s t : List ℕ) (i : ℕ) → t ≡ pad 0 24 (take i s) → length s ≤ i → _≡_ {A = Label} (record { bytes = t; length = length s }) (labelOf s)
+pub copy-end : (s t : List ℕ) (i : ℕ) → t ≡ pad 0 24 (take i (capitals s)) → length s ≤ i → _≡_ {A = Label} (record { bytes = t; length = length s }) (labelOf (capitals s))
 unfolding labelOf
-copy-end s t i e h = let f : t ≡ pad 0 24 s = e ∙ ap (pad 0 24) (take-all i s h) in λ j. record { bytes = f j; length = length s }
+copy-end s t i e h =
+    let m : length (capitals s) ≡ length s = length-map s capital in
+    let f : t ≡ pad 0 24 (capitals s) = e ∙ ap (pad 0 24) (take-all i (capitals s) (omega arith)) in
+    λ j. record { bytes = f j; length = sym m j }

@@ -1,7 +1,8 @@
--- Labels: which byte strings are labels, and the value that holds one.
-use Prim.Native.Nat.{ℕ, zero, suc}
+-- Labels: which byte strings are labels, their capitals, and the value that holds one.
+use Prim.Native.Nat.{ℕ, zero, suc, _+_, _-_, _≤_}
+use mathlib.Core.Path.{_≡_}
 use mathlib.Core.Bool.{Bool, true, _&&_, _||_, cond}
-use mathlib.Core.List.{List, [], _∷_}
+use mathlib.Core.List.{List, [], _∷_, map}
 use lib.Dec.{eqb, leb}
 use lib.ListN.{length, take, replicate}
 use Rattle.lists.specs.Lists.{pad, all?, same?}
@@ -16,8 +17,21 @@ unfoldable pub letter? : ℕ → Bool
 unfolding digit?
 letter? b = (leb 65 b && leb b 90) || digit? b || eqb b 95
 
--- "A label is 1 to 24 bytes from A to Z, 0 to 9 and underscore.": how long one is, and the form of one that is written in a line
--- or in a rule file
+-- "Looking up a label must treat a to z as A to Z": the byte that a byte of a label counts as. Only the small letters change.
+unfoldable pub capital : ℕ → ℕ
+capital b = cond (leb 97 b && leb b 122) (b - 32) b
+
+-- the same without computing: c is what b counts as
+pub data CountsAs (b c : ℕ) : Type 0 where
+  small : 97 ≤ b → b ≤ 122 → c + 32 ≡ b → CountsAs b c
+  other : (97 ≤ b → b ≤ 122 → ⊥) → c ≡ b → CountsAs b c
+
+-- The capitals of a label that is written in a log, in a rule file or in a typed rule. Two such labels are the same if their capitals
+-- are. "The record and all rules written out keep the capital form": what stands behind the readers is capitals.
+abbrev pub capitals : List ℕ → List ℕ
+capitals s = map capital s
+
+-- "A label is 1 to 24 bytes from A to Z, 0 to 9 and underscore.": how long one is, and the form of its capitals
 abbrev pub maxLabelBytes : ℕ
 maxLabelBytes = 24
 

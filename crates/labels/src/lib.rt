@@ -1,7 +1,8 @@
 // Labels and the table that numbers them: up to 64 labels in order of first appearance, found through 128 places by
 // their FNV-1a hash.
 //
-// `fnv1a` hashes bytes. `is_label` says which byte strings are labels, `label_from` makes a label of one.
+// `fnv1a` hashes bytes. `capital_byte` says what a byte of a label counts as, and is all that knows of small letters. `is_label` says
+// which byte strings are labels as they are written, `label_from` makes a label of one: it holds the capitals.
 // `no_labels` is the empty table, `find_label` looks a label up, `add_label` adds one at the place that the search found.
 ghost use mathlib.Core.Path.{_≡_};
 ghost use mathlib.Core.List.{[]};
@@ -10,7 +11,7 @@ ghost use lib.ListN.{length};
 ghost use Rattle.lists.specs.Limits.{maxLogLabels};
 ghost use Rattle.lists.specs.Tells.{Tells};
 ghost use Rattle.labels.specs.Fnv.{fnvOf, fnvStep};
-ghost use Rattle.labels.specs.Label.{maxLabelBytes, letter?, labelForm?, labelOf, noLabel, byteSound, sound?};
+ghost use Rattle.labels.specs.Label.{maxLabelBytes, letter?, capital, capitals, labelForm?, labelOf, noLabel, byteSound, sound?};
 ghost use Rattle.labels.specs.Table.{labelPlaces, firstPlace, tableOf};
 ghost use Rattle.labels.specs.Search.{FindsLabel, AddsLabel, Readable};
 use lists::MAX_LOG_LABELS;
@@ -71,7 +72,20 @@ pub fn fnv1a(bytes: &[u8]) -> u32
     h
 }
 
-// Whether a label may have the byte: A to Z, 0 to 9, underscore.
+// The byte that a byte of a label counts as: a to z as A to Z, any other as itself.
+pub fn capital_byte(b: u8) -> u8
+    ensures { λ r. ⌜ r ≡ capital b ⌝ }
+{
+    if b < 97 {
+        return b;
+    }
+    if b > 122 {
+        return b;
+    }
+    b - 32
+}
+
+// Whether a label in capitals may have the byte: A to Z, 0 to 9, underscore.
 pub fn label_byte(b: u8) -> bool
     ensures { λ r. ⌜ r ≡ letter? b ⌝ }
 {
@@ -90,9 +104,9 @@ pub fn label_byte(b: u8) -> bool
     b == 95
 }
 
-// Whether a byte string is a label: 1 to 24 bytes, each one that a label may have.
+// Whether a byte string is a label as it is written: 1 to 24 bytes, each of which counts as one that a label may have.
 pub fn is_label(s: &[u8]) -> bool
-    ensures { λ r. ⌜ r ≡ labelForm? (now (s .entry)) ⌝ }
+    ensures { λ r. ⌜ r ≡ labelForm? (capitals (now (s .entry))) ⌝ }
 {
     if s.len() < 1 {
         return false;
@@ -102,7 +116,8 @@ pub fn is_label(s: &[u8]) -> bool
     }
     let mut i: usize = 0;
     while i < s.len() {
-        if !label_byte(s[i]) {
+        let c = capital_byte(s[i]);
+        if !label_byte(c) {
             return false;
         }
         i += 1;
@@ -120,16 +135,18 @@ pub fn no_label() -> Label
     }
 }
 
-// The label with these bytes.
+// The label that is written with these bytes.
 pub fn label_from(bytes: &[u8]) -> Label
     requires { ⌜ length (now bytes) ≤ maxLabelBytes ⌝ }
-    ensures { λ x. ⌜ x ≡ labelOf (now (bytes .entry)) ⌝ }
+    ensures { λ x. ⌜ x ≡ labelOf (capitals (now (bytes .entry))) ⌝ }
 {
     let mut text = [0u8; MAX_LABEL_BYTES];
     let n = bytes.len();
     let mut i: usize = 0;
     while i < n {
-        text[i] = bytes[i];
+        let b = bytes[i];
+        let c = capital_byte(b);
+        text[i] = c;
         i += 1;
     }
     Label {
@@ -148,7 +165,7 @@ fn byte_sound(inside: bool, b: u8) -> bool
     b == 0
 }
 
-// Whether a label handed in has the bytes of a label to its length, and zeros behind.
+// Whether a label handed in has the bytes of a label to its length, capitals only, and zeros behind.
 pub fn is_sound(x: Label) -> bool
     ensures { λ r. ⌜ (r ≡ sound? x) × (length (x .bytes) ≡ maxLabelBytes) ⌝ }
 {

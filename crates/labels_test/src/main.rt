@@ -10,6 +10,7 @@
 //   b label byte N writes its text, and whether a label may have the byte N
 //   x WORD         the label is that of the word
 //   n N            the label's length is N
+//   y N            the label's first byte is N
 //   o              the label is no label
 //   l              writes the label's length, and its 24 bytes with dots for zeros
 //   e WORD         whether the word's label is the same as the label
@@ -29,6 +30,14 @@ fn of_length(x: Label, length: u8) -> Label {
     Label { bytes, length }
 }
 
+// The label with another first byte.
+fn begun_with(x: Label, first: u8) -> Label {
+    let mut bytes = x.bytes;
+    bytes[0] = first;
+    let length = x.length;
+    Label { bytes, length }
+}
+
 // The label after a case.
 fn label_after(x: Label, kind: u8, text: &[u8]) -> Label {
     if kind == b'x' {
@@ -36,6 +45,9 @@ fn label_after(x: Label, kind: u8, text: &[u8]) -> Label {
     }
     if kind == b'n' {
         return of_length(x, test_cases::byte(text, 0));
+    }
+    if kind == b'y' {
+        return begun_with(x, test_cases::byte(text, 0));
     }
     if kind == b'o' {
         return labels::no_label();

@@ -13,10 +13,8 @@ use Rattle.lists.proofs.Cases.{either-bool}
 use Rattle.lists.proofs.Lists.{same-eq, same-refl}
 use Rattle.whole_log.specs.declared.Mode.{Mode}
 use Rattle.whole_log.specs.declared.Mode.the-variants.{FirstFailure, Full}
+use Rattle.whole_log.proofs.Part.{not-full}
 use Rattle.log_check.specs.Printed.{modeSaid}
-
-not-full : FirstFailure ≡ Full → ⊥
-not-full e = absurd (let z : _≡_ {A = ℕ} 0 1 = cc in omega arith)
 
 -- THE LAW: it alone names the full mode
 pub full-said : (word : List ℕ) → (modeSaid word ≡ Full) ↔ (word ≡ bytes "full")

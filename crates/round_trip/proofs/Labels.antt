@@ -11,7 +11,8 @@ use borrow.Author.Tests.{lt-ltb, le-ltb}
 use Rattle.lists.specs.Lists.{all?}
 use Rattle.lists.proofs.Lists.{Free}
 use Rattle.lists.proofs.Cases.{either-eq, either-lt, and-left, and-right, no-both}
-use Rattle.labels.specs.Label.{digit?, letter?, labelLength?, labelForm?}
+use Rattle.labels.specs.Label.{digit?, letter?, capitals, labelLength?, labelForm?}
+use Rattle.labels.proofs.Capitals.{capitals-letters}
 use Rattle.rules.specs.Formula as Formula
 use Rattle.rules.specs.Formula.{Formula}
 use Rattle.rules.specs.Parts.{labelCount}
@@ -81,8 +82,8 @@ module _ (P : List ℕ → Type 0) where
   said-labelled (Tree.exists n t) ns a l (in-some i) = said-labelled t (n ∷ ns) a l i
   said-labelled (Tree.has n m) ns a l here = a
 
-  -- a formula whose labels have no quote
-  pub labelled-plain : ((l : List ℕ) → P l → Free 39 l) → (f : Formula) → Labelled P f → Plain f
+  -- a formula whose labels are in capitals and have no quote
+  pub labelled-plain : ((l : List ℕ) → P l → Free 39 l × (capitals l ≡ l)) → (f : Formula) → Labelled P f → Plain f
   labelled-plain q (Formula.both f g) a = (labelled-plain q f (a .0), labelled-plain q g (a .1))
   labelled-plain q (Formula.neg f) a = labelled-plain q f a
   labelled-plain q (Formula.exists v f) a = labelled-plain q f a
@@ -101,10 +102,12 @@ letters-free [] e = tt
 letters-free (b ∷ l) e =
     (letter-other b (and-left (letter? b) (all? letter? l) e), letters-free l (and-right (letter? b) (all? letter? l) e))
 
--- a label has no quote
-pub label-free : (l : List ℕ) → labelForm? l ≡ true → Free 39 l
+-- a label has no quote and is in capitals
+pub label-plain : (l : List ℕ) → labelForm? l ≡ true → Free 39 l × (capitals l ≡ l)
 unfolding labelForm?
-label-free l e = letters-free l (and-right (labelLength? (length l)) (all? letter? l) e)
+label-plain l e =
+    let f = and-right (labelLength? (length l)) (all? letter? l) e in
+    (letters-free l f, capitals-letters l f)
 
 -- ── the list of a file's labels ──
 -- the first n labels of the file

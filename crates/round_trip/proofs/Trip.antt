@@ -55,7 +55,7 @@ use Rattle.typed_meaning.proofs.Numbering.{file-numbered}
 use Rattle.typed_meaning.proofs.LabelsSaid.{listed-different, bad-label}
 use Rattle.typed_meaning.proofs.Pigeonhole.{few-within}
 use Rattle.round_trip.specs.Trip.{ReadAgain}
-use Rattle.round_trip.proofs.Labels.{Labelled, labelled-below, renamed-labelled, said-labelled, labelled-plain, label-free, firstLabels, first-long, first-has}
+use Rattle.round_trip.proofs.Labels.{Labelled, labelled-below, renamed-labelled, said-labelled, labelled-plain, label-plain, firstLabels, first-long, first-has}
 
 -- ── no bar ──
 letter-byte : (b : ℕ) → letter? b ≡ true → b ≢ 124
@@ -158,9 +158,9 @@ module _ (file : List ℕ) (x : Rule) (taken : Taken file x) where
   all-few : length all ≤ maxLabels
   all-few = omega (arith, first-long file (labelCount file), taken .labels, taken .labels-few)
 
-  -- none has a quote
+  -- each is in capitals and has no quote
   plain : Plain f
-  plain = labelled-plain OfFile (λ l a. label-free l (a .1)) f of-file
+  plain = labelled-plain OfFile (λ l a. label-plain l (a .1)) f of-file
 
   -- ── the text is read ──
   -- the text is short and inside the grammar

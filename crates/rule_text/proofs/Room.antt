@@ -5,7 +5,7 @@ use mathlib.Core.Bool.{Bool, true, false, _&&_, cond}
 use mathlib.Core.List.{List, [], _∷_, _++_}
 use native.Mathlib.Omega.{arith}
 use lib.Dec.{eqb}
-use lib.ListN.{length, getD, take, drop, replicate, length-take}
+use lib.ListN.{length, getD, take, drop, replicate}
 use lib.Seq.{take-at}
 use borrow.Author.Tests.{eqb-true, lt-ltb, le-ltb}
 use Rattle.lists.proofs.Cases.{either-eq, either-lt, and-left, and-right}
@@ -23,6 +23,7 @@ use Rattle.rules.specs.declared.RuleRead.the-variants as RuleRead
 use Rattle.grammar.proofs.RuleMet.{rule-met}
 use Rattle.grammar.proofs.Stands.{rule-says}
 use Rattle.rules.proofs.Formulas.{good-child, and-left-child, and-right-child, not-child, some-child, atom-fields, by-atom, formula-and, formula-not, formula-some, formula-has}
+use Rattle.rules.proofs.Labels.{label-length}
 use Rattle.spelling.specs.Written.{write}
 use Rattle.spelling.proofs.Weights.{Short, write-short, not-yet, root-light}
 use Rattle.rule_text.specs.Text.{Ready, textOf, answerOf, bytesOf, textAnswer, WritesText}
@@ -51,7 +52,7 @@ short-below file p l (suc m) n h g =
     (λ k. let a = some-child file p n x refl g n refl k in subst Short (sym (formula-some file p n x refl g k)) (short-below file p l m (x .b) (omega (arith, a .0)) (a .1)))
     (λ n3.
     by-atom file p n x refl g n1 n2 n3
-    (λ k. subst Short (sym (formula-has file p n x refl g k)) (let s = l (x .b) (atom-fields file p n x refl g n1 n2 n3 .place k) .high in simp length-take (omega arith)))
+    (λ k. subst Short (sym (formula-has file p n x refl g k)) (let o = l (x .b) (atom-fields file p n x refl g n1 n2 n3 .place k) in omega (arith, label-length file (x .b) o, o .high)))
     (λ n4 f. subst Short (sym f) tt))))
 
 -- ── each node is named at most once ──

@@ -1,21 +1,19 @@
 -- The texts of names and of nodes without children.
-use Prim.Native.Nat.{ℕ, zero, suc, _+_, _-_, _<_, _≤_}
-use mathlib.Core.Path.{_≡_, refl, sym, ap, ap₂, subst, fun-ext, _∙_}
-use mathlib.Core.Bool.{Bool, true, false, cond}
+use Prim.Native.Nat.{ℕ, zero, suc, _+_, _≤_}
+use mathlib.Core.Path.{_≡_, refl, sym, ap, ap₂, _∙_}
 use mathlib.Core.List.{List, [], _∷_, _++_}
 use native.Mathlib.Omega.{arith}
-use lib.Dec.{eqb}
-use lib.ListN.{length, getD, set, take, drop, length-append}
-use lib.Seq.{getD-set-same, getD-set-other}
-use borrow.Author.Tests.{eqb-true, eqb-false}
+use lib.ListN.{length, length-append}
 use Rattle.output.specs.Output.{Appends}
 use Rattle.output.proofs.Output.{appends-more, appends-same}
+use Rattle.labels.specs.Label.{labelOf, text}
+use Rattle.labels.specs.declared.Label.{Label}
+use Rattle.labels.proofs.Same.{text-of}
 use Rattle.rules.specs.Formula as Formula
-use Rattle.rules.specs.Parts.{byte, labelCount}
-use Rattle.rules.specs.Labels.{labelStart, labelBytes, LabelsOk}
+use Rattle.rules.specs.Parts.{labelCount}
+use Rattle.rules.specs.Labels.{labelBytes, LabelsOk}
 use Rattle.rules.specs.Table.{Op, opOf, shape, AtomOk}
 use Rattle.rules.specs.declared.Node.{Node}
-use Rattle.rules.proofs.Labels.{label-part, label-room}
 use Rattle.levels.specs.Levels.{Levels}
 use Rattle.typed_grammar.specs.Text.{letter}
 use Rattle.spelling.specs.Written.{write}
@@ -32,22 +30,25 @@ pub some-written : (a b : List ℕ) (at r d c : ℕ) → c ≡ letter d → Appe
 some-written a b at r d c e x = appends-same a b _ _ at r (ap (λ (i : ℕ). 40 ∷ 101 ∷ 120 ∷ 105 ∷ 115 ∷ 116 ∷ 32 ∷ i ∷ 46 ∷ []) e) x
 
 -- ── `A('TEST')` ──
-module _ (file : List ℕ) (n p : ℕ) (e : p ≡ labelStart file n) where
-  pub has-written : (a b c o : List ℕ) (at q r s x : ℕ) → Appends a at (x ∷ 40 ∷ 39 ∷ []) b q → Appends b q (take (p + 1 + byte file p - (p + 1)) (drop (p + 1) file)) c r → Appends c r (39 ∷ 41 ∷ []) o s → Appends a at (hasText x (labelBytes file n)) o s
+module _ (file : List ℕ) (n : ℕ) (l : Label) (e : l ≡ labelOf (labelBytes file n)) where
+  bytes-said : text l ≡ labelBytes file n
+  bytes-said = ap text e ∙ text-of (labelBytes file n)
+
+  pub has-written : (a b c o : List ℕ) (at q r s x : ℕ) → Appends a at (x ∷ 40 ∷ 39 ∷ []) b q → Appends b q (text l) c r → Appends c r (39 ∷ 41 ∷ []) o s → Appends a at (hasText x (labelBytes file n)) o s
   has-written a b c o at q r s x u v w =
       appends-more a b o (x ∷ 40 ∷ 39 ∷ []) (labelBytes file n ++ (39 ∷ 41 ∷ [])) at q s u
-      (appends-more b c o (labelBytes file n) (39 ∷ 41 ∷ []) q r s (appends-same b c _ _ q r (label-part file n p e) v) w)
+      (appends-more b c o (labelBytes file n) (39 ∷ 41 ∷ []) q r s (appends-same b c _ _ q r bytes-said v) w)
 
-  pub has-inside : (a b : List ℕ) (at q x : ℕ) → at + length (hasText x (labelBytes file n)) ≤ length a → Appends a at (x ∷ 40 ∷ 39 ∷ []) b q → q + length (take (p + 1 + byte file p - (p + 1)) (drop (p + 1) file)) ≤ length b
+  pub has-inside : (a b : List ℕ) (at q x : ℕ) → at + length (hasText x (labelBytes file n)) ≤ length a → Appends a at (x ∷ 40 ∷ 39 ∷ []) b q → q + length (text l) ≤ length b
   has-inside a b at q x h u =
-      let l = length-append (labelBytes file n) (39 ∷ 41 ∷ []) in
-      let m = ap length (label-part file n p e) in
+      let k = length-append (labelBytes file n) (39 ∷ 41 ∷ []) in
+      let m = ap length bytes-said in
       omega (arith, u .end, u .long)
 
-  pub has-end : (a b c : List ℕ) (at q r x : ℕ) → at + length (hasText x (labelBytes file n)) ≤ length a → Appends a at (x ∷ 40 ∷ 39 ∷ []) b q → Appends b q (take (p + 1 + byte file p - (p + 1)) (drop (p + 1) file)) c r → r + 2 ≤ length c
+  pub has-end : (a b c : List ℕ) (at q r x : ℕ) → at + length (hasText x (labelBytes file n)) ≤ length a → Appends a at (x ∷ 40 ∷ 39 ∷ []) b q → Appends b q (text l) c r → r + 2 ≤ length c
   has-end a b c at q r x h u v =
-      let l = length-append (labelBytes file n) (39 ∷ 41 ∷ []) in
-      let m = ap length (label-part file n p e) in
+      let k = length-append (labelBytes file n) (39 ∷ 41 ∷ []) in
+      let m = ap length bytes-said in
       omega (arith, u .end, u .long, v .end, v .long)
 
 -- ── a node without children ──

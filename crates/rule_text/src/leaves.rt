@@ -57,18 +57,18 @@ fn write_same(a: u8, b: u8, out: &mut [u8], at: usize) -> usize
     append(out, at, &text[..])
 }
 
-// `A('TEST')`
+// `A('TEST')`, with the capitals of label n.
 fn write_has(file: &[u8], a: u8, n: usize, out: &mut [u8], at: usize) -> usize
     requires { ⌜ LabelsOk (now file) (n + 1) ⌝ }
     requires { ⌜ at + length (hasText a (labelBytes (now file) n)) ≤ length (now out) ⌝ }
     ensures { λ r. ⌜ Appends (now (out .entry)) at (hasText a (labelBytes (now (file .entry)) n)) (now (out .exit)) r ⌝ }
 {
-    let place = rules::file_labels::label_place(file, n);
-    let from = place + 1;
-    let end = from + file[place] as usize;
+    let label = rules::file_labels::label_of(file, n);
+    let size = label.length as usize;
+    let capitals = label.bytes;
     let open = [a, b'(', 39];
     let p = append(out, at, &open[..]);
-    let q = append(out, p, &file[from..end]);
+    let q = append(out, p, &capitals[..size]);
     let close = [39, b')'];
     append(out, q, &close[..])
 }

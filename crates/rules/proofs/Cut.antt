@@ -12,10 +12,10 @@ use lib.Seq.{take-all, length-take-le, getD-take, getD-drop, ext-getD}
 use borrow.Author.Tests.{le-leb, leb-true}
 use Rattle.lists.specs.Lists.{same?}
 use Rattle.lists.proofs.Cases.{either-lt, and-right}
-use Rattle.labels.specs.Label.{maxLabelBytes, labelLength?, labelForm?}
+use Rattle.labels.specs.Label.{capitals, maxLabelBytes, labelLength?, labelForm?}
 use Rattle.rules.specs.Limits.{maxLabels, maxNodes}
 use Rattle.rules.specs.Parts.{byte, part, andThen, readMark, readVersion, labelCount, readLabelCount, readNodeCount, nothingFollows}
-use Rattle.rules.specs.Labels.{labelStart, bytesFrom, labelBytes, listed, readLabel, readLabels, LabelsOk}
+use Rattle.rules.specs.Labels.{labelStart, labelFrom, labelBytes, listed, readLabel, readLabels, LabelsOk}
 use Rattle.rules.specs.Table.{nodeAt, fieldsOk, readNodes}
 use Rattle.rules.specs.Rules.{ruleOf}
 use Rattle.rules.specs.declared.Node.{Node}
@@ -23,18 +23,9 @@ use Rattle.rules.specs.declared.Read.{Read}
 use Rattle.rules.specs.declared.Read.the-variants.{At, Refused}
 use Rattle.rules.specs.declared.RuleRead.{RuleRead}
 use Rattle.rules.specs.declared.RuleRead.the-variants as RuleRead
-use Rattle.rules.proofs.Parts.{part-read, then-stop, count-read, more-follows}
+use Rattle.rules.proofs.Parts.{part-read, then-stop, then-same, count-read, more-follows}
 use Rattle.rules.proofs.Labels.{labels-read, place-low}
 use Rattle.rules.proofs.Nodes.{nodes-read}
-
--- equal parts, and what follows is equal where they are read
-then-same : {A : Type 0} (refuse : ℕ → A) (r s : Read) (f g : ℕ → A) → r ≡ s → ((p : ℕ) → s ≡ At p → f p ≡ g p) → andThen refuse r f ≡ andThen refuse s g
-unfolding andThen
-then-same {A = A} refuse r s f g e h = ap (λ (k : Read). andThen refuse k f) e ∙ go s h
-  where
-    go : (k : Read) → ((p : ℕ) → k ≡ At p → f p ≡ g p) → andThen refuse k f ≡ andThen refuse k g
-    go (At p) l = l p refl
-    go (Refused n) l = refl
 
 -- two files of at least 600 bytes, whose first 600 are the same
 module _ (a b : List ℕ) (first : 600 ≤ length a) (second : 600 ≤ length b) (same : (p : ℕ) → p < 600 → byte a p ≡ byte b p) where
@@ -56,8 +47,8 @@ module _ (a b : List ℕ) (first : 600 ≤ length a) (second : 600 ≤ length b)
       let s : byte a (q + k) ≡ byte b (q + k) = same (q + k) (omega arith) in
       rw (getD-take n (drop q a) k 0 m, getD-take n (drop q b) k 0 m, getD-drop q a k 0, getD-drop q b k 0) s)
 
-  from-same : (p : ℕ) → p < 500 → byte b p ≤ maxLabelBytes → bytesFrom a p ≡ bytesFrom b p
-  from-same p h k = ap (λ (n : ℕ). take n (drop (p + 1) a)) (same p (omega arith)) ∙ bytes-same (p + 1) (byte b p) (omega arith)
+  from-same : (p : ℕ) → p < 500 → byte b p ≤ maxLabelBytes → labelFrom a p ≡ labelFrom b p
+  from-same p h k = ap (λ (n : ℕ). capitals (take n (drop (p + 1) a))) (same p (omega arith)) ∙ ap capitals (bytes-same (p + 1) (byte b p) (omega arith))
 
   place-same : (n : ℕ) → n ≤ maxLabels → LabelsOk b n → labelStart a n ≡ labelStart b n
   unfolding labelStart
@@ -73,7 +64,7 @@ module _ (a b : List ℕ) (first : 600 ≤ length a) (second : 600 ≤ length b)
   listed-same (suc n) h o l =
       let before : LabelsOk b n = λ i k. o i (omega arith) in
       let low = place-low b n before in
-      let label : labelBytes a n ≡ labelBytes b n = ap (bytesFrom a) (place-same n (omega arith) before) ∙ from-same (labelStart b n) (omega arith) (o n (omega arith) .high) in
+      let label : labelBytes a n ≡ labelBytes b n = ap (labelFrom a) (place-same n (omega arith) before) ∙ from-same (labelStart b n) (omega arith) (o n (omega arith) .high) in
       ap₂ _||_ (listed-same n (omega arith) before l) (ap (λ (k : List ℕ). same? k l) label)
 
   label-same : (n p : ℕ) → n ≤ maxLabels → p < 500 → LabelsOk b n → readLabel a n p ≡ readLabel b n p
@@ -85,9 +76,9 @@ module _ (a b : List ℕ) (first : 600 ≤ length a) (second : 600 ≤ length b)
       (λ q e.
       let u = part-read b p 1 _ 5 q e in
       let high : byte b p ≤ maxLabelBytes = leb-true _ _ (and-right (leb 1 (byte b p)) (leb (byte b p) maxLabelBytes) (u .1 .1)) in
-      let t : bytesFrom a p ≡ bytesFrom b p = from-same p k high in
+      let t : labelFrom a p ≡ labelFrom b p = from-same p k high in
       part-same q (byte a p) (byte b p) _ _ 5 (omega (arith, u .0)) size
-      (ap₂ _&&_ (ap labelForm? t) (ap not (ap (listed a n) t ∙ listed-same n h o (bytesFrom b p)))))
+      (ap₂ _&&_ (ap labelForm? t) (ap not (ap (listed a n) t ∙ listed-same n h o (labelFrom b p)))))
 
   labels-same : (n : ℕ) → n ≤ maxLabels → readLabels a n ≡ readLabels b n
   unfolding readLabels

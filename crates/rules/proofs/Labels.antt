@@ -6,48 +6,65 @@ use mathlib.Core.List.{List, [], _∷_}
 use native.Mathlib.Omega.{arith}
 use native.Mathlib.Numerals.{add-one}
 use lib.Dec.{eqb, leb}
-use lib.ListN.{length, getD, take, drop, drop-of-length-le, length-take, length-drop}
+use lib.ListN.{length, getD, take, drop, drop-of-length-le, length-take, length-drop, length-map}
 use lib.Seq.{drop-cons, length-take-le}
 use borrow.Author.Tests.{eq-eqb, ne-eqb, le-leb, lt-leb, leb-true, not-true, not-false}
 use Rattle.lists.specs.Lists.{same?}
 use Rattle.lists.proofs.Cases.{either-eq, no-both, and-left, and-right}
 use Rattle.lists.proofs.Lists.{same-refl}
-use Rattle.labels.specs.Label.{maxLabelBytes, labelLength?, labelForm?, labelOf}
+use Rattle.labels.specs.Label.{capital, capitals, maxLabelBytes, labelLength?, labelForm?, labelOf}
+use Rattle.labels.proofs.Capitals.{capitals-at}
 use Rattle.labels.proofs.Form.{label?, form-label}
 use Rattle.labels.specs.declared.Label.{Label}
 use Rattle.rules.specs.Parts.{byte, part, andThen}
-use Rattle.rules.specs.Labels.{labelStart, bytesFrom, labelBytes, listed, readLabel, readLabels, LabelOk, LabelsOk}
+use Rattle.rules.specs.Labels.{labelStart, labelFrom, labelBytes, listed, readLabel, readLabels, LabelOk, LabelsOk}
 use Rattle.rules.specs.declared.Read.{Read}
 use Rattle.rules.specs.declared.Read.the-variants.{At, Refused}
 use Rattle.rules.proofs.Parts.{at-inj, part-short, part-bad, part-ok, part-read, then-stop, then-at, both-read}
 
--- ── two byte strings ──
-module _ (a b : List ℕ) (i : ℕ) where
-  pub bytes-next : same? (drop i a) (drop i b) ≡ same? a b → length a ≡ length b → i < length a → getD a i 0 ≡ getD b i 0 → same? (drop (i + 1) a) (drop (i + 1) b) ≡ same? a b
-  bytes-next e l h q =
-      let k : i < length b = omega arith in
-      let f : same? (drop i a) (drop i b) ≡ same? (drop (suc i) a) (drop (suc i) b) = rw (drop-cons a i 0 h, drop-cons b i 0 k) (simp (eq-eqb _ _ q)) in
-      rw (add-one i) (sym f ∙ e)
+-- ── two labels as they are written ──
+module _ (a b : List ℕ) (i x y : ℕ) where
+  abbrev Kept : ℕ → Type 0
+  Kept n = same? (drop n (capitals a)) (drop n (capitals b)) ≡ same? (capitals a) (capitals b)
 
-  pub bytes-stop : same? (drop i a) (drop i b) ≡ same? a b → length a ≡ length b → i < length a → (getD a i 0 ≡ getD b i 0 → ⊥) → false ≡ same? a b
-  bytes-stop e l h n =
-      let k : i < length b = omega arith in
-      let f : same? (drop i a) (drop i b) ≡ false = rw (drop-cons a i 0 h, drop-cons b i 0 k) (simp (ne-eqb _ _ n)) in
+  -- the capitals from i on: those at i, and the others
+  parts : length a ≡ length b → i < length a → x ≡ capital (getD a i 0) → y ≡ capital (getD b i 0)
+      → (drop i (capitals a) ≡ x ∷ drop (i + 1) (capitals a)) × (drop i (capitals b) ≡ y ∷ drop (i + 1) (capitals b))
+  parts l h p q =
+      let m : length (capitals a) ≡ length a = length-map a capital in
+      let n : length (capitals b) ≡ length b = length-map b capital in (
+        drop-cons (capitals a) i 0 (omega arith) ∙ (ap (λ (z : ℕ). z ∷ drop (suc i) (capitals a)) (capitals-at a i ∙ sym p) ∙ rw (add-one i) refl),
+        drop-cons (capitals b) i 0 (omega arith) ∙ (ap (λ (z : ℕ). z ∷ drop (suc i) (capitals b)) (capitals-at b i ∙ sym q) ∙ rw (add-one i) refl),
+      )
+
+  pub bytes-next : Kept i → length a ≡ length b → i < length a → x ≡ capital (getD a i 0) → y ≡ capital (getD b i 0) → x ≡ y → Kept (i + 1)
+  bytes-next e l h p q r =
+      let t = parts l h p q in
+      let f : same? (drop i (capitals a)) (drop i (capitals b)) ≡ same? (drop (i + 1) (capitals a)) (drop (i + 1) (capitals b)) = rw (t .0, t .1) (simp (eq-eqb x y r)) in
       sym f ∙ e
 
-  pub bytes-end : same? (drop i a) (drop i b) ≡ same? a b → length a ≡ length b → length a ≤ i → true ≡ same? a b
+  pub bytes-stop : Kept i → length a ≡ length b → i < length a → x ≡ capital (getD a i 0) → y ≡ capital (getD b i 0) → (x ≡ y → ⊥) → false ≡ same? (capitals a) (capitals b)
+  bytes-stop e l h p q r =
+      let t = parts l h p q in
+      let f : same? (drop i (capitals a)) (drop i (capitals b)) ≡ false = rw (t .0, t .1) (simp (ne-eqb x y r)) in
+      sym f ∙ e
+
+  pub bytes-end : Kept i → length a ≡ length b → length a ≤ i → true ≡ same? (capitals a) (capitals b)
   bytes-end e l h =
-      let k : length b ≤ i = omega arith in
-      let f : same? (drop i a) (drop i b) ≡ true = rw (drop-of-length-le a h, drop-of-length-le b k) refl in
+      let m : length (capitals a) ≡ length a = length-map a capital in
+      let n : length (capitals b) ≡ length b = length-map b capital in
+      let j : length (capitals a) ≤ i = omega arith in
+      let k : length (capitals b) ≤ i = omega arith in
+      let f : same? (drop i (capitals a)) (drop i (capitals b)) ≡ true = rw (drop-of-length-le (capitals a) j, drop-of-length-le (capitals b) k) refl in
       sym f ∙ e
 
-pub bytes-length : (a b : List ℕ) → (length a ≡ length b → ⊥) → false ≡ same? a b
+pub bytes-length : (a b : List ℕ) → (length a ≡ length b → ⊥) → false ≡ same? (capitals a) (capitals b)
 bytes-length [] [] h = absurd (h refl)
 bytes-length [] (y ∷ b) h = refl
 bytes-length (x ∷ a) [] h = refl
-bytes-length (x ∷ a) (y ∷ b) h = go (eqb x y) (bytes-length a b (λ e. h (ap suc e)))
+bytes-length (x ∷ a) (y ∷ b) h = go (eqb (capital x) (capital y)) (bytes-length a b (λ e. h (ap suc e)))
   where
-    go : (t : Bool) → false ≡ same? a b → false ≡ (t && same? a b)
+    go : (t : Bool) → false ≡ same? (capitals a) (capitals b) → false ≡ (t && same? (capitals a) (capitals b))
     go true e = e
     go false e = refl
 
@@ -98,32 +115,34 @@ pub label-size : (file : List ℕ) (n i p : ℕ) → LabelsOk file n → p ≡ l
 label-size file n i p o e h = rw e (o i h .high)
 
 -- the part of the file that the code hands on is the label
-pub bytes-part : (file : List ℕ) (p : ℕ) → take (p + 1 + byte file p - (p + 1)) (drop (p + 1) file) ≡ bytesFrom file p
+pub bytes-part : (file : List ℕ) (p : ℕ) → capitals (take (p + 1 + byte file p - (p + 1)) (drop (p + 1) file)) ≡ labelFrom file p
 bytes-part file p =
     let e : p + 1 + byte file p - (p + 1) ≡ byte file p = omega arith in
-    ap (λ (k : ℕ). take k (drop (p + 1) file)) e
+    ap (λ (k : ℕ). capitals (take k (drop (p + 1) file))) e
 
-pub label-part : (file : List ℕ) (n p : ℕ) → p ≡ labelStart file n → take (p + 1 + byte file p - (p + 1)) (drop (p + 1) file) ≡ labelBytes file n
-label-part file n p e = bytes-part file p ∙ ap (bytesFrom file) e
+pub label-part : (file : List ℕ) (n p : ℕ) → p ≡ labelStart file n → capitals (take (p + 1 + byte file p - (p + 1)) (drop (p + 1) file)) ≡ labelBytes file n
+label-part file n p e = bytes-part file p ∙ ap (labelFrom file) e
 
 -- the label that the code makes of that part
 module _ (file : List ℕ) (n p : ℕ) (o : LabelsOk file (n + 1)) (e : p ≡ labelStart file n) where
   pub label-short : length (take (p + 1 + byte file p - (p + 1)) (drop (p + 1) file)) ≤ maxLabelBytes
   label-short = let h = label-size file (n + 1) n p o e (omega arith) in simp length-take (omega arith)
 
-  pub label-is : (x : Label) → x ≡ labelOf (take (p + 1 + byte file p - (p + 1)) (drop (p + 1) file)) → (x ≡ labelOf (labelBytes file n)) × (x .length ≤ maxLabelBytes)
+  pub label-is : (x : Label) → x ≡ labelOf (capitals (take (p + 1 + byte file p - (p + 1)) (drop (p + 1) file))) → (x ≡ labelOf (labelBytes file n)) × (x .length ≤ maxLabelBytes)
   unfolding labelOf
-  label-is x f = (f ∙ ap labelOf (label-part file n p e), omega (arith, ap (λ (y : Label). y .length) f, label-short))
+  label-is x f =
+      let m = length-map (take (p + 1 + byte file p - (p + 1)) (drop (p + 1) file)) capital in
+      (f ∙ ap labelOf (label-part file n p e), omega (arith, ap (λ (y : Label). y .length) f, m, label-short))
 
 -- ── a label among those before it ──
 abbrev pub alike : List ℕ → ℕ → ℕ → Bool
-alike file p at = same? (take (p + 1 + byte file p - (p + 1)) (drop (p + 1) file)) (take (at + 1 + byte file at - (at + 1)) (drop (at + 1) file))
+alike file p at = same? (capitals (take (p + 1 + byte file p - (p + 1)) (drop (p + 1) file))) (capitals (take (at + 1 + byte file at - (at + 1)) (drop (at + 1) file)))
 
 module _ (file : List ℕ) (m p at : ℕ) (d : Bool) (place : p ≡ labelStart file m) (says : d ≡ alike file p at) where
-  alike-says : d ≡ same? (labelBytes file m) (bytesFrom file at)
-  alike-says = says ∙ (ap₂ same? (bytes-part file p) (bytes-part file at) ∙ ap (λ (q : ℕ). same? (bytesFrom file q) (bytesFrom file at)) place)
+  alike-says : d ≡ same? (labelBytes file m) (labelFrom file at)
+  alike-says = says ∙ (ap₂ same? (bytes-part file p) (bytes-part file at) ∙ ap (λ (q : ℕ). same? (labelFrom file q) (labelFrom file at)) place)
 
-  pub listed-next : listed file m (bytesFrom file at) ≡ false → d ≡ false → listed file (m + 1) (bytesFrom file at) ≡ false
+  pub listed-next : listed file m (labelFrom file at) ≡ false → d ≡ false → listed file (m + 1) (labelFrom file at) ≡ false
   unfolding listed
   listed-next e f = rw (add-one m, e) (sym alike-says ∙ f)
 
@@ -135,11 +154,11 @@ listed-found file (suc n) m l h e =
     (λ q. rw (subst (λ (k : ℕ). same? (labelBytes file k) l ≡ true) q e) (or-true (listed file n l)))
     (λ q. rw (listed-found file n m l (omega arith) e) refl)
 
-pub listed-stop : (file : List ℕ) (n m p at : ℕ) (d : Bool) → p ≡ labelStart file m → d ≡ alike file p at → m < n → d ≡ true → true ≡ listed file n (bytesFrom file at)
+pub listed-stop : (file : List ℕ) (n m p at : ℕ) (d : Bool) → p ≡ labelStart file m → d ≡ alike file p at → m < n → d ≡ true → true ≡ listed file n (labelFrom file at)
 listed-stop file n m p at d e f h t = sym (listed-found file n m _ h (sym (alike-says file m p at d e f) ∙ t))
 
-pub listed-end : (file : List ℕ) (n m at : ℕ) → listed file m (bytesFrom file at) ≡ false → m ≤ n → n ≤ m → false ≡ listed file n (bytesFrom file at)
-listed-end file n m at e h k = let q : m ≡ n = omega arith in sym (subst (λ (i : ℕ). listed file i (bytesFrom file at) ≡ false) q e)
+pub listed-end : (file : List ℕ) (n m at : ℕ) → listed file m (labelFrom file at) ≡ false → m ≤ n → n ≤ m → false ≡ listed file n (labelFrom file at)
+listed-end file n m at e h k = let q : m ≡ n = omega arith in sym (subst (λ (i : ℕ). listed file i (labelFrom file at) ≡ false) q e)
 
 -- ── one label ──
 module _ (file : List ℕ) (n at : ℕ) (start : at ≤ length file) where
@@ -165,21 +184,21 @@ module _ (file : List ℕ) (n at : ℕ) (start : at ≤ length file) where
         unfolding readLabel
         label-cut k = then-at Refused _ (at + 1) _ _ (sym (part-ok file at 1 _ 5 (omega arith) sized)) (part-short file (at + 1) (byte file at) _ 5 (omega arith))
 
-        module _ (room : byte file at ≤ length file - (at + 1)) (l : Bool) (says : l ≡ labelForm? (take (at + 1 + byte file at - (at + 1)) (drop (at + 1) file))) where
-          tested : labelForm? (bytesFrom file at) ≡ l
+        module _ (room : byte file at ≤ length file - (at + 1)) (l : Bool) (says : l ≡ labelForm? (capitals (take (at + 1 + byte file at - (at + 1)) (drop (at + 1) file)))) where
+          tested : labelForm? (labelFrom file at) ≡ l
           tested = sym (says ∙ ap labelForm? (bytes-part file at))
 
-          faulty : (labelForm? (bytesFrom file at) && not (listed file n (bytesFrom file at))) ≡ false → Refused 5 ≡ readLabel file n at
+          faulty : (labelForm? (labelFrom file at) && not (listed file n (labelFrom file at))) ≡ false → Refused 5 ≡ readLabel file n at
           unfolding readLabel
           faulty e = then-at Refused _ (at + 1) _ _ (sym (part-ok file at 1 _ 5 (omega arith) sized)) (part-bad file (at + 1) (byte file at) _ 5 (omega arith) e)
 
           pub label-letter : not l ≡ true → Refused 5 ≡ readLabel file n at
           label-letter t = faulty (simp (tested ∙ not-true l t))
 
-          pub label-twice : (d : Bool) → not l ≡ false → d ≡ listed file n (bytesFrom file at) → d ≡ true → Refused 5 ≡ readLabel file n at
+          pub label-twice : (d : Bool) → not l ≡ false → d ≡ listed file n (labelFrom file at) → d ≡ true → Refused 5 ≡ readLabel file n at
           label-twice d t f u = faulty (simp (tested ∙ not-false l t, sym f ∙ u))
 
-          pub label-ok : (d : Bool) → not l ≡ false → d ≡ listed file n (bytesFrom file at) → d ≡ false → At (at + 1 + byte file at) ≡ readLabel file n at
+          pub label-ok : (d : Bool) → not l ≡ false → d ≡ listed file n (labelFrom file at) → d ≡ false → At (at + 1 + byte file at) ≡ readLabel file n at
           unfolding readLabel
           label-ok d t f u = then-at Refused _ (at + 1) _ _ (sym (part-ok file at 1 _ 5 (omega arith) sized)) (part-ok file (at + 1) (byte file at) _ 5 (omega arith) (simp (tested ∙ not-false l t, sym f ∙ u)))
 
@@ -195,7 +214,7 @@ unfolding readLabel labelStart
 label-read file n q e =
     let p : ℕ = labelStart file n in
     let size : Bool = labelLength? (byte file p) in
-    let fit : Bool = labelForm? (bytesFrom file p) && not (listed file n (bytesFrom file p)) in
+    let fit : Bool = labelForm? (labelFrom file p) && not (listed file n (labelFrom file p)) in
     let t = both-read (part file p 1 size 5) (λ q. part file q (byte file p) fit 5) q e in
     let u = part-read file p 1 size 5 (t .0) (t .1) in
     let v = part-read file (t .0) (byte file p) fit 5 q (t .2) in (
@@ -204,8 +223,8 @@ label-read file n q e =
         low = leb-true 1 (byte file p) (and-left (leb 1 (byte file p)) (leb (byte file p) maxLabelBytes) (u .1 .1));
         high = leb-true (byte file p) maxLabelBytes (and-right (leb 1 (byte file p)) (leb (byte file p) maxLabelBytes) (u .1 .1));
         room = omega (arith, u .0, v .1 .0);
-        form = and-left (labelForm? (bytesFrom file p)) (not (listed file n (bytesFrom file p))) (v .1 .1);
-        fresh = not-true _ (and-right (labelForm? (bytesFrom file p)) (not (listed file n (bytesFrom file p))) (v .1 .1));
+        form = and-left (labelForm? (labelFrom file p)) (not (listed file n (labelFrom file p))) (v .1 .1);
+        fresh = not-true _ (and-right (labelForm? (labelFrom file p)) (not (listed file n (labelFrom file p))) (v .1 .1));
       },
     )
 
@@ -243,12 +262,14 @@ labels-end file n m at e h k = let q : n ≡ m = omega arith in sym (subst (λ (
 -- such a label has as many bytes as its length byte says, and the form of a label
 module _ (file : List ℕ) (n : ℕ) (o : LabelOk file n) where
   pub label-length : length (labelBytes file n) ≡ byte file (labelStart file n)
-  label-length = length-take-le (byte file (labelStart file n)) (drop (labelStart file n + 1) file) (simp length-drop (omega (arith, o .room)))
+  label-length =
+      length-map (take (byte file (labelStart file n)) (drop (labelStart file n + 1) file)) capital
+      ∙ length-take-le (byte file (labelStart file n)) (drop (labelStart file n + 1) file) (simp length-drop (omega (arith, o .room)))
 
   pub label-form : label? (labelBytes file n) ≡ true
   label-form = form-label (labelBytes file n) (o .form)
 
--- "none listed twice": two labels of a file that is taken differ
+-- "none listed twice": two labels of a file that is taken differ in their capitals
 pub labels-differ : (file : List ℕ) (n i j : ℕ) → LabelsOk file n → i < j → j < n → labelBytes file i ≡ labelBytes file j → ⊥
 labels-differ file n i j o h k e =
     let t : listed file j (labelBytes file j) ≡ true = listed-found file j i _ h (ap (λ (l : List ℕ). same? l (labelBytes file j)) e ∙ same-refl (labelBytes file j)) in

@@ -44,6 +44,15 @@ part-read file p n ok fault q e = go (leb (p + n) (length file)) ok refl e
     go false y h f = not-at 1 q f
 
 -- ── one part after another ──
+-- equal parts, and what follows is equal where they are read
+pub then-same : {A : Type 0} (refuse : ℕ → A) (r s : Read) (f g : ℕ → A) → r ≡ s → ((p : ℕ) → s ≡ At p → f p ≡ g p) → andThen refuse r f ≡ andThen refuse s g
+unfolding andThen
+then-same {A = A} refuse r s f g e h = ap (λ (k : Read). andThen refuse k f) e ∙ go s h
+  where
+    go : (k : Read) → ((p : ℕ) → k ≡ At p → f p ≡ g p) → andThen refuse k f ≡ andThen refuse k g
+    go (At p) l = l p refl
+    go (Refused n) l = refl
+
 module _ {A : Type 0} (refuse : ℕ → A) where
   pub then-stop : (r : Read) (n : ℕ) (f : ℕ → A) → r ≡ Refused n → refuse n ≡ andThen refuse r f
   unfolding andThen

@@ -1,11 +1,11 @@
--- The labels of a rule file: "each label as a length byte and its bytes, none listed twice".
+-- The labels of a rule file: "each label as a length byte and its bytes, none listed twice". What is looked up is their capitals.
 use Prim.Native.Nat.{ℕ, zero, suc, _+_, _≤_, _<_}
 use mathlib.Core.Path.{_≡_}
 use mathlib.Core.Bool.{Bool, true, false, not, _&&_, _||_}
 use mathlib.Core.List.{List}
 use lib.ListN.{length, take, drop}
 use Rattle.lists.specs.Lists.{same?}
-use Rattle.labels.specs.Label.{maxLabelBytes, labelLength?, labelForm?}
+use Rattle.labels.specs.Label.{capitals, maxLabelBytes, labelLength?, labelForm?}
 use Rattle.rules.specs.Parts.{byte, part, andThen, labelsAt}
 use Rattle.rules.specs.declared.Read.{Read}
 use Rattle.rules.specs.declared.Read.the-variants.{At, Refused}
@@ -15,23 +15,24 @@ unfoldable pub labelStart : List ℕ → ℕ → ℕ
 labelStart file zero = labelsAt
 labelStart file (suc n) = labelStart file n + 1 + byte file (labelStart file n)
 
--- the bytes of the label whose length byte is at p; those of label n
-abbrev pub bytesFrom : List ℕ → ℕ → List ℕ
-bytesFrom file p = take (byte file p) (drop (p + 1) file)
+-- the capitals of the label whose length byte is at p; those of label n
+abbrev pub labelFrom : List ℕ → ℕ → List ℕ
+labelFrom file p = capitals (take (byte file p) (drop (p + 1) file))
 
 abbrev pub labelBytes : List ℕ → ℕ → List ℕ
-labelBytes file n = bytesFrom file (labelStart file n)
+labelBytes file n = labelFrom file (labelStart file n)
 
--- one of the first n labels has the bytes l
+-- one of the first n labels has the capitals l
 unfoldable pub listed : List ℕ → ℕ → List ℕ → Bool
 listed file zero l = false
 listed file (suc n) l = listed file n l || same? (labelBytes file n) l
 
--- Label n at p: its length byte, then its bytes. "5 a label of wrong length or byte, or listed twice"
+-- Label n at p: its length byte, then its bytes. "5 a label of wrong length or byte, or listed twice"; "5 does for two labels in a
+-- rule file's list that differ only in case"
 unfoldable pub readLabel : List ℕ → ℕ → ℕ → Read
 readLabel file n p =
     andThen Refused (part file p 1 (labelLength? (byte file p)) 5)
-    (λ q. part file q (byte file p) (labelForm? (bytesFrom file p) && not (listed file n (bytesFrom file p))) 5)
+    (λ q. part file q (byte file p) (labelForm? (labelFrom file p) && not (listed file n (labelFrom file p))) 5)
 
 -- the first n labels
 unfoldable pub readLabels : List ℕ → ℕ → Read

@@ -3,23 +3,27 @@ ghost use mathlib.Core.Path.{_≡_};
 ghost use Prim.Native.Nat.{_+_, _≤_};
 ghost use lib.ListN.{length};
 ghost use Rattle.lists.specs.Lists.{same?};
-ghost use Rattle.labels.specs.Label.{maxLabelBytes, labelOf};
+ghost use Rattle.labels.specs.Label.{capitals, maxLabelBytes, labelOf};
 ghost use Rattle.rules.specs.Parts.{byte};
-ghost use Rattle.rules.specs.Labels.{labelStart, bytesFrom, labelBytes, listed, readLabel, readLabels, LabelsOk};
+ghost use Rattle.rules.specs.Labels.{labelStart, labelFrom, labelBytes, listed, readLabel, readLabels, LabelsOk};
 use crate::LABELS_AT;
 use crate::Read;
 use labels::MAX_LABEL_BYTES;
 
-// Whether two byte strings are the same.
-fn same_bytes(a: &[u8], b: &[u8]) -> bool
-    ensures { λ r. ⌜ r ≡ same? (now (a .entry)) (now (b .entry)) ⌝ }
+// Whether two labels as they are written have the same capitals.
+fn same_label(a: &[u8], b: &[u8]) -> bool
+    ensures { λ r. ⌜ r ≡ same? (capitals (now (a .entry))) (capitals (now (b .entry))) ⌝ }
 {
     if a.len() != b.len() {
         return false;
     }
     let mut i = 0;
     while i < a.len() {
-        if a[i] != b[i] {
+        let p = a[i];
+        let q = b[i];
+        let x = labels::capital_byte(p);
+        let y = labels::capital_byte(q);
+        if x != y {
             return false;
         }
         i += 1;
@@ -30,7 +34,7 @@ fn same_bytes(a: &[u8], b: &[u8]) -> bool
 // Whether one of the first n labels is the label at a place, that of label n.
 fn is_listed(file: &[u8], n: usize, at: usize) -> bool
     requires { ⌜ (at ≡ labelStart (now file) n) × (at + 1 + byte (now file) at ≤ length (now file)) ⌝ }
-    ensures { λ r. ⌜ r ≡ listed (now (file .entry)) n (bytesFrom (now (file .entry)) at) ⌝ }
+    ensures { λ r. ⌜ r ≡ listed (now (file .entry)) n (labelFrom (now (file .entry)) at) ⌝ }
 {
     let from = at + 1;
     let end = from + file[at] as usize;
@@ -39,7 +43,7 @@ fn is_listed(file: &[u8], n: usize, at: usize) -> bool
     while m < n {
         let a = p + 1;
         let e = a + file[p] as usize;
-        if same_bytes(&file[a..e], &file[from..end]) {
+        if same_label(&file[a..e], &file[from..end]) {
             return true;
         }
         p = e;
@@ -100,7 +104,7 @@ pub fn labels(file: &[u8], count: usize) -> Read
 }
 
 // The place of label n: that of its length byte.
-pub fn label_place(file: &[u8], n: usize) -> usize
+fn label_place(file: &[u8], n: usize) -> usize
     requires { ⌜ LabelsOk (now file) n ⌝ }
     ensures { λ p. ⌜ p ≡ labelStart (now (file .entry)) n ⌝ }
 {

@@ -1,8 +1,8 @@
 // The parts of a rule file, each read at its place: `front::head`, `file_labels::labels`, `table::node_count` and
 // `table::nodes` answer the place after their part, or the number of its first fault (1 to 6).
 //
-// Nothing is copied: a rule names places of its file. For a file that is taken, `file_labels::label_place` finds a label,
-// `file_labels::label_of` its bytes as a label, and `table::node_at` a node.
+// Nothing is copied: a rule names places of its file. For a file that is taken, `file_labels::label_of` gives a label, in
+// capitals, and `table::node_at` a node.
 pub mod file_labels;
 pub mod front;
 pub mod table;

@@ -126,7 +126,7 @@ module _ (text : List ℕ) where
       ∙ said-means f p (suc d) n (omega arith) h (enter c v) (binds e v d) (inner-more c e d v i) o (41 ∷ s) x1)
   said-means (Formula.has v l) p d n k h c e i o s x =
       ap₂ Formula.has (atom-levels c e d v i (omega arith) o)
-      (label-said text l (41 ∷ s) p (ends-behind text 39 _ (ends-behind text 40 _ (ends-behind text (letter (e v)) _ x))))
+      (label-said text l (41 ∷ s) (p .0) (ends-behind text 39 _ (ends-behind text 40 _ (ends-behind text (letter (e v)) _ x))) ∙ p .1)
   said-means (Formula.pair q v w) p d n k h c e i o s x =
       let a = atom-levels c e d v i (omega arith) (and-left (c v) (c w) o) in
       let b = atom-levels c e d w i (omega arith) (and-right (c v) (c w) o) in

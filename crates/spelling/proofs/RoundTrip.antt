@@ -10,6 +10,7 @@ use lib.ListN.{length, length-append}
 use borrow.Author.Tests.{eq-eqb, ne-eqb, le-leb, lt-leb}
 use Rattle.lists.specs.Lists.{has?, past}
 use Rattle.lists.proofs.Lists.{Free, has-seam, past-seam}
+use Rattle.labels.specs.Label.{capitals}
 use Rattle.rules.specs.Formula as Formula
 use Rattle.rules.specs.Formula.{Pairing, Formula}
 use Rattle.signs.specs.Signs.{Got, read, outside, blank?, skip, sign, capital?, wordByte?, nameMore, name, label}
@@ -23,12 +24,12 @@ use Rattle.typed_grammar.specs.File.{pairKind}
 use Rattle.spelling.specs.Written.{writePair, write, said, deep}
 use Rattle.levels.specs.Levels.{Levels, binds}
 
--- labels without a quote
+-- labels in capitals and without a quote
 abbrev pub Plain : Formula → Type 0
 Plain (Formula.both f g) = Plain f × Plain g
 Plain (Formula.neg f) = Plain f
 Plain (Formula.exists v f) = Plain f
-Plain (Formula.has v l) = Free 39 l
+Plain (Formula.has v l) = Free 39 l × (capitals l ≡ l)
 Plain (Formula.pair p v w) = Unit {0}
 
 -- a text that no name goes on with
@@ -190,7 +191,7 @@ not-reads (Formula.exists v f) p d e s y n h =
     (and-one (suc (suc (suc (suc (suc (n - 10)))))) x (Tree.exists (letter d) t) s
     (some-one (suc (suc (suc (n - 10)))) (letter d) z t (41 ∷ s) (letter-range d .0) (letter-range d .1) (or-one (n - 10) z t (41 ∷ s) (none-and s) (none-bar s) (closed-skip s) a))))
 not-reads (Formula.has v l) p d e s y n h =
-    at-depth n _ _ s h (λ m. from-letter (letter (e v)) 0 (letter-range (e v) .0) (letter-range (e v) .1) m _ _ s (has-back (letter (e v)) 0 (letter-range (e v) .0) (letter-range (e v) .1) l s p))
+    at-depth n _ _ s h (λ m. from-letter (letter (e v)) 0 (letter-range (e v) .0) (letter-range (e v) .1) m _ _ s (has-back (letter (e v)) 0 (letter-range (e v) .0) (letter-range (e v) .1) l s (p .0)))
 not-reads (Formula.pair q v w) p d e s y n h = pair-back q (e v) (e w) s y n h
 
 -- ── the text is long enough for its depth ──

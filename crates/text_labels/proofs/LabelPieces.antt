@@ -6,15 +6,15 @@ use mathlib.Core.List.{List, [], _∷_, _++_, append-assoc}
 use native.Mathlib.Omega.{arith}
 use native.Mathlib.Numerals.{add-one}
 use lib.Dec.{eqb}
-use lib.ListN.{length, getD, take, drop, length-drop, drop-of-length-le, List·getD-eq-default}
+use lib.ListN.{length, getD, take, drop, length-drop, length-map, drop-of-length-le, List·getD-eq-default}
 use lib.Seq.{take-suc, drop-cons, getD-drop, length-take-le}
 use borrow.Author.Tests.{eq-eqb, ne-eqb, le-leb, lt-leb, not-true, not-false}
 use Rattle.lists.specs.Lists.{all?, same?, upTo}
 use Rattle.lists.proofs.Lists.{append-nil}
-use Rattle.lists.proofs.Cases.{either-eq}
-use Rattle.labels.specs.Label.{letter?}
+use Rattle.lists.proofs.Cases.{either-eq, either-bool}
+use Rattle.labels.specs.Label.{capital, capitals, labelForm?}
+use Rattle.labels.proofs.Capitals.{capital-sign}
 use Rattle.typed_formula.specs.Meaning.{labelText}
-use Rattle.labels.specs.Label.{labelForm?}
 use Rattle.typed_grammar.specs.File.{placeIn}
 use Rattle.text_labels.specs.Pieces.{EndsLabel, Cut, texts, Finds, goodLabels?}
 use Rattle.text_labels.specs.declared.Piece.{Piece}
@@ -71,32 +71,35 @@ module _ (text : List ℕ) (at p : ℕ) (s : Scanned text at p) where
 pub cut : (text : List ℕ) (n from end : ℕ) → (from ≡ length text - n) × (from ≤ length text) → EndsLabel text from end → Cut text n (record { from = from; end = end })
 unfolding labelText
 cut text n from end f e =
-    let b : take (end - from) (drop from text) ≡ labelText text n = e .bytes ∙ ap (λ (k : ℕ). upTo 39 (drop k text)) (f .0) in
+    let s : List ℕ = take (end - from) (drop from text) in
+    let b : capitals s ≡ labelText text n = ap capitals (e .bytes) ∙ ap (λ (k : ℕ). capitals (upTo 39 (drop k text))) (f .0) in
+    let l : length s ≡ end - from = length-take-le (end - from) (drop from text) (omega (arith, length-drop from text, e .inside)) in
     record {
       bytes = b;
-      size = sym (length-take-le (end - from) (drop from text) (omega (arith, length-drop from text, e .inside))) ∙ ap length b;
+      size = sym l ∙ (sym (length-map s capital) ∙ ap length b);
       ahead = e .ahead;
       inside = e .inside;
     }
 
 -- ── two labels ──
-pub byte-inside : (text : List ℕ) (p r : ℕ) → r ≡ getD text p 0 → p < length text → r ≡ getD text p 39
+pub byte-inside : (text : List ℕ) (p r : ℕ) → r ≡ capital (getD text p 0) → p < length text → r ≡ getD (capitals text) p 39
 byte-inside [] p r e h = absurd (omega arith)
 byte-inside (b ∷ s) zero r e h = e
 byte-inside (b ∷ s) (suc p) r e h = byte-inside s p r e (omega arith)
 
-pub byte-behind : (text : List ℕ) (p : ℕ) → length text ≤ p → 39 ≡ getD text p 39
-byte-behind text p h = sym (List·getD-eq-default text 39 h)
+pub byte-behind : (text : List ℕ) (p : ℕ) → length text ≤ p → getD (capitals text) p 39 ≡ 39
+byte-behind text p h = List·getD-eq-default (capitals text) 39 (rw (length-map text capital) h)
 
--- a label from a place on: none at a quote or behind the end, else the byte and what follows
-label-step : (text : List ℕ) (p : ℕ) → upTo 39 (drop p text) ≡ cond (eqb (getD text p 39) 39) [] (getD text p 39 ∷ upTo 39 (drop (suc p) text))
-label-step [] zero = refl
-label-step [] (suc p) = refl
-label-step (b ∷ s) zero = refl
-label-step (b ∷ s) (suc p) = label-step s p
-
+-- none at a quote, else the byte and what follows
 abbrev headed : ℕ → List ℕ → List ℕ
 headed x s = cond (eqb x 39) [] (x ∷ s)
+
+-- a label from a place on, in capitals; behind the end there is none
+label-step : (text : List ℕ) (p : ℕ) → capitals (upTo 39 (drop p text)) ≡ headed (getD (capitals text) p 39) (capitals (upTo 39 (drop (suc p) text)))
+label-step [] zero = refl
+label-step [] (suc p) = refl
+label-step (b ∷ s) zero = rw (capital-sign b 39 (omega arith)) (either-bool (eqb b 39) (λ e. simp e) (λ e. simp e))
+label-step (b ∷ s) (suc p) = label-step s p
 
 heads-differ : (x y : ℕ) (s u : List ℕ) → (x ≡ y → ⊥) → same? (headed x s) (headed y u) ≡ false
 heads-differ x y s u n =
@@ -113,15 +116,16 @@ heads-same : (x y : ℕ) (s u : List ℕ) → x ≡ y → (x ≡ 39 → ⊥) →
 heads-same x y s u e n = rw (ne-eqb x 39 n, ne-eqb y 39 (λ f. n (e ∙ f)), eq-eqb x y e)
 
 module _ (text : List ℕ) (a b i : ℕ) where
-  -- what is left of the two labels behind i bytes that are the same
+  -- what is left of a label from a place on
   abbrev rest : ℕ → List ℕ
-  rest p = upTo 39 (drop p text)
+  rest p = capitals (upTo 39 (drop p text))
 
+  -- the first i capitals of the two labels are the same
   pub record SameFrom : Type 0 where
-    pub same : same? (upTo 39 (drop a text)) (upTo 39 (drop b text)) ≡ same? (upTo 39 (drop (a + i) text)) (upTo 39 (drop (b + i) text))
+    pub same : same? (rest a) (rest b) ≡ same? (rest (a + i)) (rest (b + i))
     pub few : i ≤ length text - a
 
-  module _ (v : SameFrom) (x y : ℕ) (ex : x ≡ getD text (a + i) 39) (ey : y ≡ getD text (b + i) 39) where
+  module _ (v : SameFrom) (x y : ℕ) (ex : x ≡ getD (capitals text) (a + i) 39) (ey : y ≡ getD (capitals text) (b + i) 39) where
     opened-same : same? (rest a) (rest b) ≡ same? (headed x (rest (suc (a + i)))) (headed y (rest (suc (b + i))))
     opened-same =
         v .same
@@ -143,30 +147,30 @@ same-first text a b =
     let e : a + 0 ≡ a = omega arith in
     let f : b + 0 ≡ b = omega arith in
     record {
-      same = ap₂ (λ (j : ℕ) (k : ℕ). same? (upTo 39 (drop j text)) (upTo 39 (drop k text))) (sym e) (sym f);
+      same = ap₂ (λ (j : ℕ) (k : ℕ). same? (capitals (upTo 39 (drop j text))) (capitals (upTo 39 (drop k text)))) (sym e) (sym f);
       few = omega arith;
     }
 
-pub same-next : (text : List ℕ) (a b i : ℕ) → SameFrom text a b i → (x y : ℕ) → x ≡ getD text (a + i) 39 → y ≡ getD text (b + i) 39 → x ≡ y → (x ≡ 39 → ⊥) → i < length text - a → SameFrom text a b (i + 1)
+pub same-next : (text : List ℕ) (a b i : ℕ) → SameFrom text a b i → (x y : ℕ) → x ≡ getD (capitals text) (a + i) 39 → y ≡ getD (capitals text) (b + i) 39 → x ≡ y → (x ≡ 39 → ⊥) → i < length text - a → SameFrom text a b (i + 1)
 same-next text a b i v x y ex ey e n h =
     let j : suc (a + i) ≡ a + (i + 1) = omega arith in
     let k : suc (b + i) ≡ b + (i + 1) = omega arith in
     record {
-      same = same-step text a b i v x y ex ey e n ∙ ap₂ (λ (p : ℕ) (q : ℕ). same? (upTo 39 (drop p text)) (upTo 39 (drop q text))) j k;
+      same = same-step text a b i v x y ex ey e n ∙ ap₂ (λ (p : ℕ) (q : ℕ). same? (capitals (upTo 39 (drop p text))) (capitals (upTo 39 (drop q text)))) j k;
       few = omega arith;
     }
 
 -- behind the last byte a label is at its end
-pub same-out : (text : List ℕ) (a b i : ℕ) → a ≤ length text → SameFrom text a b i → length text - a ≤ i → (y : ℕ) → y ≡ getD text (b + i) 39 → eqb y 39 ≡ same? (upTo 39 (drop a text)) (upTo 39 (drop b text))
+pub same-out : (text : List ℕ) (a b i : ℕ) → a ≤ length text → SameFrom text a b i → length text - a ≤ i → (y : ℕ) → y ≡ getD (capitals text) (b + i) 39 → eqb y 39 ≡ same? (capitals (upTo 39 (drop a text))) (capitals (upTo 39 (drop b text)))
 same-out text a b i l v h y ey =
-    let x : getD text (a + i) 39 ≡ 39 = List·getD-eq-default text 39 (omega arith) in
+    let x = byte-behind text (a + i) (omega arith) in
     either-eq y 39
     (λ f. rw (eq-eqb y 39 f) (same-end text a b i v 39 y (sym x) ey (sym f) refl))
     (λ n. rw (ne-eqb y 39 n) (same-differ text a b i v 39 y (sym x) ey (λ f. n (sym f))))
 
-pub labels-same : (text : List ℕ) (m n a b : ℕ) (r : Bool) → (a ≡ length text - m) × (a ≤ length text) → (b ≡ length text - n) × (b ≤ length text) → r ≡ same? (upTo 39 (drop a text)) (upTo 39 (drop b text)) → r ≡ same? (labelText text m) (labelText text n)
+pub labels-same : (text : List ℕ) (m n a b : ℕ) (r : Bool) → (a ≡ length text - m) × (a ≤ length text) → (b ≡ length text - n) × (b ≤ length text) → r ≡ same? (capitals (upTo 39 (drop a text))) (capitals (upTo 39 (drop b text))) → r ≡ same? (labelText text m) (labelText text n)
 unfolding labelText
-labels-same text m n a b r f g e = e ∙ ap₂ (λ (j : ℕ) (k : ℕ). same? (upTo 39 (drop j text)) (upTo 39 (drop k text))) (f .0) (g .0)
+labels-same text m n a b r f g e = e ∙ ap₂ (λ (j : ℕ) (k : ℕ). same? (capitals (upTo 39 (drop j text))) (capitals (upTo 39 (drop k text)))) (f .0) (g .0)
 
 -- ── one label looked for ──
 module _ (text places : List ℕ) (n : ℕ) where
@@ -200,7 +204,7 @@ module _ (text places : List ℕ) (n : ℕ) where
           record { same = omega (arith, l .same); few = omega arith }
 
 -- ── the form of a label ──
-pub label-form : (text : List ℕ) (n : ℕ) (x : Piece) (r : Bool) → Cut text n x → r ≡ labelForm? (take (x .end - x .from) (drop (x .from) text)) → r ≡ labelForm? (labelText text n)
+pub label-form : (text : List ℕ) (n : ℕ) (x : Piece) (r : Bool) → Cut text n x → r ≡ labelForm? (capitals (take (x .end - x .from) (drop (x .from) text))) → r ≡ labelForm? (labelText text n)
 label-form text n x r c e = e ∙ ap labelForm? (c .bytes)
 
 module _ (text places : List ℕ) (i : ℕ) (e : goodLabels? (texts text (drop i places)) ≡ goodLabels? (texts text places)) where

@@ -6,7 +6,7 @@ use mathlib.Core.Bool.{Bool, true, _&&_}
 use mathlib.Core.List.{List, [], _∷_}
 use lib.ListN.{length, take, drop}
 use Rattle.lists.specs.Lists.{upTo}
-use Rattle.labels.specs.Label.{labelForm?}
+use Rattle.labels.specs.Label.{capitals, labelForm?}
 use Rattle.typed_formula.specs.Meaning.{labelText}
 use Rattle.typed_grammar.specs.File.{placeIn}
 use Rattle.text_labels.specs.declared.Piece.{Piece}
@@ -17,9 +17,9 @@ pub record EndsLabel (text : List ℕ) (at r : ℕ) : Type 0 where
   pub ahead : at ≤ r
   pub inside : r ≤ length text
 
--- the piece that is a label
+-- the piece that is a label as it is written
 pub record Cut (text : List ℕ) (n : ℕ) (x : Piece) : Type 0 where
-  pub bytes : take (x .end - x .from) (drop (x .from) text) ≡ labelText text n
+  pub bytes : capitals (take (x .end - x .from) (drop (x .from) text)) ≡ labelText text n
   pub size : x .end - x .from ≡ length (labelText text n)
   pub ahead : x .from ≤ x .end
   pub inside : x .end ≤ length text

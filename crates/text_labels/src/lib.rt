@@ -1,12 +1,13 @@
 // Labels as pieces of a typed rule. A label is named by how many bytes stand behind its opening quote, to the text's end.
 //
-// `cut_label` finds the bytes of a label, `find` its number among others, `labels_ok` says whether each is one.
+// `cut_label` finds the bytes of a label, `find` its number among others, `labels_ok` says whether each is one. Two labels are one
+// where their capitals are the same.
 ghost use mathlib.Core.Path.{_≡_};
 ghost use Prim.Native.Nat.{_-_, _≤_};
 ghost use lib.ListN.{length, getD, drop};
 ghost use Rattle.lists.specs.Lists.{same?, upTo};
 ghost use Rattle.typed_formula.specs.Meaning.{labelText};
-ghost use Rattle.labels.specs.Label.{labelForm?};
+ghost use Rattle.labels.specs.Label.{capitals, labelForm?};
 ghost use Rattle.text_labels.specs.Pieces.{EndsLabel, Cut, Finds, goodLabels?, texts};
 
 // A label's first byte, and the place behind its last.
@@ -49,25 +50,25 @@ pub fn cut_label(text: &[u8], n: usize) -> Piece
     Piece { from, end }
 }
 
-// The byte at a place; a quote behind the end.
-fn byte_or_quote(text: &[u8], p: usize) -> u8
-    ensures { λ r. ⌜ r ≡ getD (now (text .entry)) p 39 ⌝ }
+// The capital of the byte at a place; a quote behind the end.
+fn capital_or_quote(text: &[u8], p: usize) -> u8
+    ensures { λ r. ⌜ r ≡ getD (capitals (now (text .entry))) p 39 ⌝ }
 {
     if p < text.len() {
-        return text[p];
+        return labels::capital_byte(text[p]);
     }
     39
 }
 
-// Whether two labels have the same bytes: those from two places to the first quote. Most differ in their first byte.
+// Whether two labels have the same capitals: those from two places to the first quote. Most differ in their first byte.
 fn same_from(text: &[u8], a: usize, b: usize) -> bool
     requires { ⌜ (a ≤ length (now text)) × (b ≤ length (now text)) ⌝ }
-    ensures { λ r. ⌜ r ≡ same? (upTo 39 (drop a (now (text .entry)))) (upTo 39 (drop b (now (text .entry)))) ⌝ }
+    ensures { λ r. ⌜ r ≡ same? (capitals (upTo 39 (drop a (now (text .entry))))) (capitals (upTo 39 (drop b (now (text .entry))))) ⌝ }
 {
     let mut i: usize = 0;
     while i < text.len() - a {
-        let x = byte_or_quote(text, a + i);
-        if x != byte_or_quote(text, b + i) {
+        let x = capital_or_quote(text, a + i);
+        if x != capital_or_quote(text, b + i) {
             return false;
         }
         if x == 39 {
@@ -75,7 +76,7 @@ fn same_from(text: &[u8], a: usize, b: usize) -> bool
         }
         i += 1;
     }
-    byte_or_quote(text, b + i) == 39
+    capital_or_quote(text, b + i) == 39
 }
 
 // The same of two labels by how many bytes stand behind their opening quotes.

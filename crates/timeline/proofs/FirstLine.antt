@@ -29,10 +29,10 @@ use Rattle.timeline.proofs.AllLines.{first-lines}
 use Rattle.timeline.proofs.LastLine.{lines-in}
 
 -- ── a verdict up to the first that fails ──
-up-to-there : (n k : ℕ) → k ≡ n → verdictUpTo n k ≡ Fails
+pub up-to-there : (n k : ℕ) → k ≡ n → verdictUpTo n k ≡ Fails
 up-to-there n k e = ap (λ (b : Bool). cond b Fails Holds) (eq-eqb k n e)
 
-up-to-before : (n k : ℕ) → (k ≡ n → ⊥) → verdictUpTo n k ≡ Holds
+pub up-to-before : (n k : ℕ) → (k ≡ n → ⊥) → verdictUpTo n k ≡ Holds
 up-to-before n k d = ap (λ (b : Bool). cond b Fails Holds) (ne-eqb k n d)
 
 -- ── a search through the lines ──

@@ -12,14 +12,14 @@ use borrow.Author.Tests.{eq-eqb, ne-eqb, le-leb, leb-true}
 use Rattle.lists.specs.Lists.{all?, same?}
 use Rattle.lists.proofs.Cases.{either-eq, either-lt, and-left, and-right}
 use Rattle.rules.specs.Parts.{byte, part, andThen, labelCount, readMark, readVersion, readLabelCount, readHead, readNodeCount}
-use Rattle.rules.specs.Labels.{labelStart, bytesFrom, listed, readLabel, readLabels, LabelOk, LabelsOk}
+use Rattle.rules.specs.Labels.{labelStart, labelFrom, listed, readLabel, readLabels, LabelOk, LabelsOk}
 use Rattle.rules.specs.Labels as Labels
 use Rattle.rules.specs.Table.{nodeAt, readNode, readNodes, NodeOk}
 use Rattle.rules.specs.declared.Read.{Read}
 use Rattle.rules.specs.declared.Read.the-variants.{At, Refused}
 use Rattle.rules.proofs.Parts.{part-ok, then-at, mark-ok, version-ok, labels-ok, head-count}
-use Rattle.typed_formula.specs.Meaning.{labelText}
-use Rattle.labels.specs.Label.{letter?, labelForm?}
+use Rattle.labels.specs.Label.{letter?, capitals, labelForm?}
+use Rattle.labels.proofs.Capitals.{capitals-letters}
 use Rattle.typed_grammar.specs.File.{placeIn}
 use Rattle.text_labels.specs.Pieces.{goodLabels?}
 use Rattle.typed_checks.proofs.Numbers.{Distinct}
@@ -58,6 +58,7 @@ pub record Form (l : List ℕ) : Type 0 where
   pub low : 1 ≤ length l
   pub high : length l ≤ 24
   pub form : labelForm? l ≡ true
+  pub capital : capitals l ≡ l
 
 form-of : (l : List ℕ) → labelForm? l ≡ true → Form l
 unfolding labelForm? letter?
@@ -65,7 +66,12 @@ form-of l e =
     let a = leb 1 (length l) in
     let b = leb (length l) 24 in
     let r = and-left (a && b) (all? letter? l) e in
-    record { low = leb-true 1 (length l) (and-left a b r); high = leb-true (length l) 24 (and-right a b r); form = e }
+    record {
+      low = leb-true 1 (length l) (and-left a b r);
+      high = leb-true (length l) 24 (and-right a b r);
+      form = e;
+      capital = capitals-letters l (and-right (a && b) (all? letter? l) e);
+    }
 
 pub good-form : (ls : List (List ℕ)) (i : ℕ) → goodLabels? ls ≡ true → i < length ls → Form (getD ls i [])
 good-form ls i g h = form-of (getD ls i []) (good-each ls i g h)
@@ -104,14 +110,14 @@ module _ (text tb : List ℕ) (n : ℕ) (ls : List (List ℕ)) where
   label-size : (i : ℕ) → i < length ls → byte file (length (firsts i)) ≡ length (getD ls i [])
   label-size i h = ap (λ (y : List ℕ). getD y (length (firsts i)) 0) (split-label i h) ∙ getD-append-seam (firsts i) (length (getD ls i [])) _ 0
 
-  label-bytes : (i : ℕ) → i < length ls → bytesFrom file (length (firsts i)) ≡ getD ls i []
+  label-bytes : (i : ℕ) → i < length ls → labelFrom file (length (firsts i)) ≡ capitals (getD ls i [])
   label-bytes i h =
       let l = getD ls i [] in
       let rest = labelsPart (drop (suc i) ls) ++ tail in
       let p = length (firsts i) in
       let e : file ≡ (firsts i ++ (length l ∷ [])) ++ (l ++ rest) = split-label i h ∙ sym (append-assoc (firsts i) (length l ∷ []) (l ++ rest)) in
       let d : drop (p + 1) file ≡ l ++ rest = ap (drop (p + 1)) e ∙ drop-at (firsts i ++ (length l ∷ [])) (l ++ rest) (p + 1) (length-append (firsts i) (length l ∷ [])) in
-      ap₂ (λ (k : ℕ) (y : List ℕ). take k y) (label-size i h) d ∙ take-append-seam l rest
+      ap₂ (λ (k : ℕ) (y : List ℕ). capitals (take k y)) (label-size i h) d ∙ ap capitals (take-append-seam l rest)
 
   label-room : (i : ℕ) → i < length ls → length (firsts i) + 1 + length (getD ls i []) ≤ length file
   label-room i h =
@@ -134,15 +140,16 @@ module _ (text tb : List ℕ) (n : ℕ) (ls : List (List ℕ)) where
       let v = length-append l [] in
       omega (arith, front-long i, front-long (suc i), ap length t)
 
-  pub label-is : (i : ℕ) → i < length ls → Labels.labelBytes file i ≡ getD ls i []
-  label-is i h = ap (bytesFrom file) (place-is i (omega arith)) ∙ label-bytes i h
+  -- labels of the right form are in capitals, so they stand in the file as they are
+  pub label-is : goodLabels? ls ≡ true → (i : ℕ) → i < length ls → Labels.labelBytes file i ≡ getD ls i []
+  label-is g i h = ap (labelFrom file) (place-is i (omega arith)) ∙ (label-bytes i h ∙ good-form ls i g h .capital)
 
-  fresh : Distinct ls → (i k : ℕ) → k ≤ i → i < length ls → listed file k (getD ls i []) ≡ false
+  fresh : goodLabels? ls ≡ true → Distinct ls → (i k : ℕ) → k ≤ i → i < length ls → listed file k (getD ls i []) ≡ false
   unfolding listed
-  fresh d i zero h g = refl
-  fresh d i (suc k) h g =
-      let a : listed file k (getD ls i []) ≡ false = fresh d i k (omega arith) g in
-      let b : same? (Labels.labelBytes file k) (getD ls i []) ≡ false = ap (λ (y : List ℕ). same? y (getD ls i [])) (label-is k (omega arith)) ∙ d k i (omega arith) g in
+  fresh g d i zero h m = refl
+  fresh g d i (suc k) h m =
+      let a : listed file k (getD ls i []) ≡ false = fresh g d i k (omega arith) m in
+      let b : same? (Labels.labelBytes file k) (getD ls i []) ≡ false = ap (λ (y : List ℕ). same? y (getD ls i [])) (label-is g k (omega arith)) ∙ d k i (omega arith) m in
       rw (a, b)
 
   pub labels-fine : goodLabels? ls ≡ true → Distinct ls → LabelsOk file (length ls)
@@ -154,8 +161,8 @@ module _ (text tb : List ℕ) (n : ℕ) (ls : List (List ℕ)) where
         low = omega (arith, f .low);
         high = omega (arith, f .high);
         room = omega (arith, label-room i h);
-        form = ap labelForm? (label-is i h) ∙ f .form;
-        fresh = ap (listed file i) (label-is i h) ∙ fresh d i i (omega arith) h;
+        form = ap labelForm? (label-is g i h) ∙ f .form;
+        fresh = ap (listed file i) (label-is g i h) ∙ fresh g d i i (omega arith) h;
       }
 
   -- the head

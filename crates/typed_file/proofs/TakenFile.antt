@@ -84,7 +84,7 @@ module _ (text tb₀ : List ℕ) (room : 192 ≤ length tb₀) (t : Tree) (known
     labels = λ i h e.
         (let a = fine i h .label e in
         let x = labelText text (getD tb (3 * i + 2) 0) in
-        ap (Labels.labelBytes file) (node-second text tb n ls i h ∙ second-label i e) ∙ (label-is text tb n ls (placeIn ls x) a ∙ number-at ls x a));
+        ap (Labels.labelBytes file) (node-second text tb n ls i h ∙ second-label i e) ∙ (label-is text tb n ls (ok .form) (placeIn ls x) a ∙ number-at ls x a));
   }
 
   node-ok : (i : ℕ) → i < n → NodeOk file (p + 1) i

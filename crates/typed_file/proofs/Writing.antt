@@ -12,6 +12,9 @@ use borrow.Author.Tests.{eq-eqb, ne-eqb}
 use Rattle.lists.proofs.Lists.{append-nil}
 use Rattle.output.specs.Output.{Appends}
 use Rattle.output.proofs.Output.{appends-more, appends-same, appends-none}
+use Rattle.labels.specs.Label.{capitals, labelOf}
+use Rattle.labels.specs.declared.Label.{Label}
+use Rattle.labels.proofs.Same.{text-of}
 use Rattle.typed_formula.specs.Meaning.{labelText}
 use Rattle.typed_grammar.specs.File.{placeIn}
 use Rattle.text_labels.specs.Pieces.{Cut, Finds, texts}
@@ -21,11 +24,34 @@ use Rattle.grammar.specs.Layout.{front, labelsPart}
 use Rattle.typed_file.specs.File.{labelBytes, second, nodeBytes, nodesBytes, fileFrom, Short, Fit}
 
 -- ── labels ──
-pub wrote-label : (text : List ℕ) (n : ℕ) (x : Piece) (a b c : List ℕ) (at p q : ℕ) → Cut text n x → Appends a at ((x .end - x .from) ∷ []) b p → Appends b p (take (x .end - x .from) (drop (x .from) text)) c q → Appends a at (labelBytes (labelText text n)) c q
-wrote-label text n x a b c at p q k m o =
-    appends-more a b c (length (labelText text n) ∷ []) (labelText text n) at p q
-    (appends-same a b _ _ at p (ap (λ (i : ℕ). i ∷ []) (k .size)) m)
-    (appends-same b c _ _ p q (k .bytes) o)
+-- the label that the code makes of a piece of the text
+module _ (text : List ℕ) (n : ℕ) (x : Piece) (k : Cut text n x) where
+  abbrev piece : List ℕ
+  piece = take (x .end - x .from) (drop (x .from) text)
+
+  module _ (l : Label) (e : l ≡ labelOf (capitals piece)) where
+    label-is : l ≡ labelOf (labelText text n)
+    label-is = e ∙ ap labelOf (k .bytes)
+
+    label-size : l .length ≡ length (labelText text n)
+    unfolding labelOf
+    label-size = ap (λ (y : Label). y .length) label-is
+
+    label-said : take (l .length) (l .bytes) ≡ labelText text n
+    label-said = ap (λ (y : Label). take (y .length) (y .bytes)) label-is ∙ text-of (labelText text n)
+
+    pub label-few : length (labelText text n) ≤ 24 → l .length ≤ 24
+    label-few h = omega (arith, label-size)
+
+    module _ (a b : List ℕ) (at p : ℕ) (m : Appends a at (l .length ∷ []) b p) where
+      pub label-fits : (length (labelText text n) ≤ 24) × (at + 25 ≤ length a) → p + length (take (l .length) (l .bytes)) ≤ length b
+      label-fits h = omega (arith, ap length label-said, m .end, m .long)
+
+      pub wrote-label : (c : List ℕ) (q : ℕ) → Appends b p (take (l .length) (l .bytes)) c q → Appends a at (labelBytes (labelText text n)) c q
+      wrote-label c q o =
+          appends-more a b c (length (labelText text n) ∷ []) (labelText text n) at p q
+          (appends-same a b _ _ at p (ap (λ (i : ℕ). i ∷ []) label-size) m)
+          (appends-same b c _ _ p q label-said o)
 
 pub list-append : (xs ys : List (List ℕ)) → labelsPart (xs ++ ys) ≡ labelsPart xs ++ labelsPart ys
 list-append [] ys = refl

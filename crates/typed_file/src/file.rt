@@ -12,7 +12,7 @@ use output::append;
 use text_labels::cut_label;
 use text_labels::find;
 
-// A label: its length and its bytes.
+// A label: its length and its capitals.
 fn write_label(text: &[u8], n: usize, out: &mut [u8], at: usize) -> usize
     requires { ⌜ (length (labelText (now text) n) ≤ 24) × (at + 25 ≤ length (now out)) ⌝ }
     ensures { λ r. ⌜ Appends (now (out .entry)) at (labelBytes (labelText (now (text .entry)) n)) (now (out .exit)) r ⌝ }
@@ -20,9 +20,12 @@ fn write_label(text: &[u8], n: usize, out: &mut [u8], at: usize) -> usize
     let x = cut_label(text, n);
     let from = x.from;
     let end = x.end;
-    let size = [(end - from) as u8; 1];
-    let p = append(out, at, &size[..]);
-    append(out, p, &text[from..end])
+    let label = labels::label_from(&text[from..end]);
+    let length = [label.length; 1];
+    let p = append(out, at, &length[..]);
+    let size = label.length as usize;
+    let capitals = label.bytes;
+    append(out, p, &capitals[..size])
 }
 
 // The labels at places.

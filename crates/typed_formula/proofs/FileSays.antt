@@ -18,7 +18,7 @@ use Rattle.atoms.specs.Emit.{Names, level, inside}
 use Rattle.typed_formula.specs.Meaning.{labelText, formulaFor}
 use Rattle.typed_formula.proofs.Stands.{NodeIs, Stands, size-some}
 
--- The nodes of the file from p on are those of the table; a label's place is in the file the number of a label with its bytes.
+-- The nodes of the file from p on are those of the table; a label's place is in the file the number of a label with its capitals.
 pub record Laid (text tb file : List ℕ) (p count : ℕ) : Type 0 where
   pub kinds : (i : ℕ) → i < count → nodeAt file p i .kind ≡ getD tb (3 * i) 0
   pub firsts : (i : ℕ) → i < count → nodeAt file p i .a ≡ getD tb (3 * i + 1) 0

@@ -4,6 +4,7 @@ use Prim.Native.Nat.{ℕ, _-_}
 use mathlib.Core.List.{List}
 use lib.ListN.{length, drop}
 use Rattle.lists.specs.Lists.{upTo}
+use Rattle.labels.specs.Label.{capitals}
 use Rattle.rules.specs.Formula as Formula
 use Rattle.rules.specs.Formula.{Formula}
 use Rattle.rules.specs.Table.{pairingOf}
@@ -11,9 +12,9 @@ use Rattle.atoms.specs.Tree as Tree
 use Rattle.atoms.specs.Tree.{Tree}
 use Rattle.atoms.specs.Emit.{Names, level, inside}
 
--- the bytes of the label before whose end n bytes stand
+-- the capitals of the label behind whose opening quote n bytes stand
 unfoldable pub labelText : List ℕ → ℕ → List ℕ
-labelText text n = upTo 39 (drop (length text - n) text)
+labelText text n = capitals (upTo 39 (drop (length text - n) text))
 
 -- "An or becomes the not of the and of the nots of its two sides."
 -- "A name bound at nesting level k (from 0) becomes variable k"

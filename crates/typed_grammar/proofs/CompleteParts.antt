@@ -7,6 +7,7 @@ use mathlib.Core.Bool.{true}
 use mathlib.Core.List.{List, [], _∷_}
 use native.Mathlib.Omega.{arith}
 use lib.ListN.{length}
+use Rattle.labels.specs.Label.{capitals}
 use Rattle.rules.specs.Formula.{Pairing}
 use Rattle.rules.specs.Formula as Pairing
 use Rattle.rules.specs.Table.{pairingOf}
@@ -152,7 +153,7 @@ module _ (text : List ℕ) {gs : List Sign} (s : List ℕ) where
       }
 
   -- `A('TEST')`
-  pub has-read : (n l : List ℕ) → EndsIn text s → Signs s (Words.name n ∷ Words.mark Words.opens ∷ Words.label l ∷ Words.mark Words.closes ∷ gs) → OperandRead text (has n l) gs s
+  pub has-read : (n l : List ℕ) → EndsIn text s → Signs s (Words.name n ∷ Words.mark Words.opens ∷ Words.label l ∷ Words.mark Words.closes ∷ gs) → OperandRead text (has n (capitals l)) gs s
   has-read n l ends r =
       let a = name-found r in
       let b = mark-found (a .after .row) in

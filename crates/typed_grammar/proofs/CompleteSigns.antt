@@ -12,6 +12,7 @@ use borrow.Author.Tests.{eq-eqb, ne-eqb, leb-true, le-leb, not-true}
 use Rattle.lists.specs.Lists.{upTo}
 use Rattle.lists.proofs.Cases.{either-bool, no-both, and-left, and-right}
 use Rattle.lists.proofs.Lists.{Free, has-seam, up-seam, past-seam}
+use Rattle.labels.specs.Label.{capitals}
 use Rattle.grammar.specs.Written.{EachByte}
 use Rattle.signs.specs.Signs.{read, blank?, skip, behind, sign, capital?, wordByte?, nameMore, name, label}
 use Rattle.signs.proofs.Bytes.{word-capital, word-digit, word-else}
@@ -220,8 +221,8 @@ label-front : (l s : List ℕ) → Free 39 l → label (39 ∷ (l ++ (39 ∷ s))
 unfolding label sign skip blank?
 label-front l s h = rw (has-seam 39 l s, past-seam 39 l s h)
 
--- the place of a label tells its bytes
-pub label-said : (text l s : List ℕ) → Free 39 l → EndsIn text (l ++ (39 ∷ s)) → labelText text (length (l ++ (39 ∷ s))) ≡ l
+-- the place of a label tells its capitals
+pub label-said : (text l s : List ℕ) → Free 39 l → EndsIn text (l ++ (39 ∷ s)) → labelText text (length (l ++ (39 ∷ s))) ≡ capitals l
 unfolding labelText
 label-said text l s h e =
     let x : List ℕ = l ++ (39 ∷ s) in
@@ -229,15 +230,15 @@ label-said text l s h e =
     let p : length text - length x ≡ length (e .0) = omega arith in
     let d : drop (length text - length x) text ≡ x =
     ap (λ (i : ℕ). drop i text) p ∙ (ap (drop (length (e .0))) (e .1) ∙ drop-append-seam (e .0) x) in
-    ap (upTo 39) d ∙ up-seam 39 l s h
+    ap capitals (ap (upTo 39) d ∙ up-seam 39 l s h)
 
--- A label is found, its place in every text that ends in s says its bytes, and behind it stand the signs gs.
+-- A label is found, its place in every text that ends in s says its capitals, and behind it stand the signs gs.
 pub record LabelFound (l : List ℕ) (gs : List Sign) (s : List ℕ) : Type 0 where
   pub place : ℕ
   pub rest : List ℕ
   pub found : label s ≡ read place rest
   pub after : After gs s rest
-  pub said : (text : List ℕ) → EndsIn text s → labelText text place ≡ l
+  pub said : (text : List ℕ) → EndsIn text s → labelText text place ≡ capitals l
 
 -- a label that stands first
 label-here : (l : List ℕ) {gs : List Sign} (s : List ℕ) → Free 39 l → Signs s gs → LabelFound l gs (39 ∷ (l ++ (39 ∷ s)))

@@ -11,6 +11,7 @@ use Rattle.signs.specs.Signs.{Got, read, outside, next, ifSign, sign, openSign,
 use Rattle.signs.specs.Signs as Reader
 use Rattle.atoms.specs.Tree as Kept
 use Rattle.atoms.specs.Atoms.{readSame, readHas, relation, readPair, readAtom}
+use Rattle.labels.specs.Label.{capitals}
 use Rattle.typed_formula.specs.Meaning.{labelText}
 use Rattle.typed_grammar.specs.Words.{Mark, markBytes, opens, closes, comma, before, overlaps, includes, same, Sign, mark, name, label, IsName, Signs}
 use Rattle.typed_grammar.specs.Grammar.{Tree, exists, has, pair, Relation, is-before, is-overlaps, is-includes, Part, rule, side, operand, names, Begins, has-label, same-label}
@@ -151,10 +152,10 @@ module _ (text s : List ℕ) where
           sense = λ hs g.
               record {
                 signs = name (a .word) ∷ mark opens ∷ label (l .word) ∷ mark closes ∷ hs;
-                tree = has (a .word) (l .word);
+                tree = has (a .word) (capitals (l .word));
                 row = a .row _ (o .row _ (l .row _ (z .row hs g)));
                 reads = has-label;
-                codes = coded-label text (a .word) (l .word) n q (a .good) (a .number) (l .place);
+                codes = coded-label text (a .word) (capitals (l .word)) n q (a .good) (a .number) (l .place);
               };
         }
 

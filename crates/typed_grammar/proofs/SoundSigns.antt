@@ -11,6 +11,7 @@ use lib.Seq.{drop-append-seam}
 use borrow.Author.Tests.{leb-true, le-leb, eqb-true, eqb-false, eq-eqb}
 use Rattle.lists.specs.Lists.{has?, upTo, past}
 use Rattle.lists.proofs.Cases.{either-bool, no-both, never, and-left, and-right}
+use Rattle.labels.specs.Label.{capitals}
 use Rattle.grammar.specs.Written.{EachByte}
 use Rattle.signs.specs.Signs.{Got, read, outside, blank?, skip, behind, sign, capital?, wordByte?, nameMore, nameFrom, quoted}
 use Rattle.signs.proofs.Blanks.{skip-again}
@@ -236,18 +237,18 @@ up-free c [] = λ j h. absurd (omega arith)
 up-free c (b ∷ s) =
     either-bool (eqb b c) (λ p. simp p (λ j h. absurd (omega arith))) (λ p. simp p (each-more (λ b. b ≡ c → ⊥) b (upTo c s) (eqb-false b c p) (up-free c s)))
 
--- the bytes of a label from its place
-pub label-at : (text s : List ℕ) → EndOf text s → labelText text (length s) ≡ upTo 39 s
+-- the capitals of a label from its place
+pub label-at : (text s : List ℕ) → EndOf text s → labelText text (length s) ≡ capitals (upTo 39 s)
 unfolding labelText
 label-at text s d =
     let n : length text - length s ≡ length (d .before) = omega (arith, ap length (d .is), length-append (d .before) s) in
     let e : drop (length text - length s) text ≡ s = ap (λ (k : ℕ). drop k text) n ∙ (ap (λ (l : List ℕ). drop (length (d .before)) l) (d .is) ∙ drop-append-seam (d .before) s) in
-    ap (upTo 39) e
+    ap (λ (l : List ℕ). capitals (upTo 39 l)) e
 
 -- a label that was read
 pub record Labelled (text s : List ℕ) (q : ℕ) (r : List ℕ) : Type 0 where
   pub word : List ℕ
-  pub place : labelText text q ≡ word
+  pub place : labelText text q ≡ capitals word
   pub tail : EndOf text r
   pub row : (gs : List Sign) → Signs r gs → Signs s (label word ∷ gs)
 

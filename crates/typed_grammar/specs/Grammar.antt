@@ -2,11 +2,13 @@
 use Prim.Native.Nat.{ℕ, _≤_}
 use mathlib.Core.List.{List, [], _∷_}
 use lib.ListN.{length}
+use Rattle.labels.specs.Label.{capitals}
 use Rattle.rules.specs.Formula.{Pairing}
 use Rattle.rules.specs.Formula as Pairing
 use Rattle.typed_grammar.specs.Words.{Mark, bar, and, not, opens, closes, comma, dot, before, overlaps, includes, exist, same, Sign, mark, name, label, Signs}
 
--- What a text says. Names and labels are their bytes.
+-- What a text says. Names are their bytes, labels their capitals: "Looking up a label must treat a to z as A to Z, in logs, rule files
+-- and typed rules".
 pub data Tree : Type 0 where
   either both : Tree → Tree → Tree
   neg : Tree → Tree
@@ -51,7 +53,7 @@ pub data Begins : Part → List Sign → Tree → List Sign → Type 0 where
       → Begins names gs t rest → Begins names (name n ∷ mark comma ∷ gs) (exists n t) rest
   -- `A('TEST')`
   has-label : {n l : List ℕ} {rest : List Sign}
-      → Begins operand (name n ∷ mark opens ∷ label l ∷ mark closes ∷ rest) (has n l) rest
+      → Begins operand (name n ∷ mark opens ∷ label l ∷ mark closes ∷ rest) (has n (capitals l)) rest
   -- `A < B`, `A o B`, `A i B`
   relation : {m : Mark} {p : Pairing} {n o : List ℕ} {rest : List Sign}
       → Relation m p → Begins operand (name n ∷ mark m ∷ name o ∷ rest) (pair p n o) rest

@@ -18,6 +18,7 @@ use Rattle.rules.specs.Rules.{formulaOf}
 use Rattle.logic.specs.declared.Verdict.the-variants.{Holds, Fails}
 use Rattle.logic.specs.Verdict.{verdictByte, verdictOf, Says}
 use Rattle.timeline.specs.AllLines.{NotBehind, verdictUpTo, FindsFailing}
+use Rattle.timeline.proofs.FirstLine.{up-to-there, up-to-before}
 use Rattle.reading.specs.declared.Ending.the-variants.{Read}
 use Rattle.reading.specs.declared.LogRead.{LogRead}
 use Rattle.reading.specs.Reading.{readFrom, readAnswer}
@@ -30,12 +31,6 @@ use Rattle.whole_log.proofs.Part.{not-both-verdicts, Through, cut, whol
 use Rattle.whole_log.proofs.WholeLog.{read-lines-few, first-taken, taken-low, lines-within, found-line, all-taken, state-is, read-steps, read-at-once}
 
 -- ── the verdicts up to the first that fails ──
-up-to-fails : (n : ℕ) → verdictUpTo n n ≡ Fails
-up-to-fails n = simp (eq-eqb n n refl)
-
-up-to-holds : (n k : ℕ) → (k ≡ n → ⊥) → verdictUpTo n k ≡ Holds
-up-to-holds n k d = simp (ne-eqb k n d)
-
 pub byte-fails : (n k : ℕ) → k ≡ n → 0 ≡ verdictByte (verdictUpTo n k)
 byte-fails n k e = simp (eq-eqb k n e)
 
@@ -108,10 +103,10 @@ module _ (log : List ℕ) (a : LogRead) (got : a ≡ readAnswer (readFrom noTrac
     fails-there : 0 < n → (t : Trace) × (steps (next noTrace) (take n ls) ≡ next t) × (verdictOf t (formulaOf file x) ≡ Fails)
     fails-there h =
         let f = first-taken log a got n (j .low) in
-        (f .0, f .1, sym (line-verdict n (f .0) h (omega (arith, j .low, lines-within log a got)) (λ _. omega arith) (f .1) .answer) ∙ up-to-fails n)
+        (f .0, f .1, sym (line-verdict n (f .0) h (omega (arith, j .low, lines-within log a got)) (λ _. omega arith) (f .1) .answer) ∙ up-to-there n n refl)
 
     holds-there : (k : ℕ) (t : Trace) → 0 < k → k ≤ length ls → NotBehind n k → (k ≡ n → ⊥) → steps (next noTrace) (take k ls) ≡ next t → verdictOf t (formulaOf file x) ≡ Holds
-    holds-there k t some h b d e = sym (line-verdict k t some h b e .answer) ∙ up-to-holds n k d
+    holds-there k t some h b d e = sym (line-verdict k t some h b e .answer) ∙ up-to-before n k d
 
     pub found-part : toFailure file x noTrace ls ≡ firstOrAll n ls
     found-part = go (through file x ls noTrace)

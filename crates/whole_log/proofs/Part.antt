@@ -28,6 +28,10 @@ use Rattle.whole_log.specs.declared.Mode.the-variants.{FirstFailure, Ful
 use Rattle.whole_log.specs.Log.{linesFrom}
 use Rattle.whole_log.specs.Part.{behind, toFailure, linesRead, readPart, EndsFailing, ToFailure, shortest, all, PartOf}
 
+-- ── modes ──
+pub not-full : FirstFailure ≡ Full → ⊥
+not-full e = absurd (let z : _≡_ {A = ℕ} 0 1 = cc in omega arith)
+
 -- ── verdicts ──
 pub not-both-verdicts : {C : Type 0} (v : Verdict) → v ≡ Holds → v ≡ Fails → C
 not-both-verdicts v e f = let q : Holds ≡ Fails = sym e ∙ f in absurd (let z : _≡_ {A = ℕ} 0 1 = cc in omega arith)

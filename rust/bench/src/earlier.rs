@@ -31,6 +31,9 @@ extern "C" {
 }
 
 type Relate = unsafe extern "C" fn(*const u8, usize, u32, u32) -> u32;
+type CheckLine = unsafe extern "C" fn(u32, *const u8, usize, *mut u8, usize, *mut u8, usize, *const u8, usize) -> u32;
+type CheckLineWithoutLayout =
+    unsafe extern "C" fn(*const u8, usize, *mut u8, usize, *mut u8, usize, *const u8, usize) -> u32;
 type CheckLog =
     unsafe extern "C" fn(u32, u32, *const u8, usize, *const u8, usize, *mut u8, usize, *mut u8, usize) -> u32;
 type CheckLogWithoutMode =
@@ -65,6 +68,12 @@ enum ReadLog {
     WithoutLayout(CheckLogWithoutLayout),
 }
 
+/// The call that takes one line, as a version has it.
+enum TakeLine {
+    WithLayout(CheckLine),
+    WithoutLayout(CheckLineWithoutLayout),
+}
+
 /// The two libraries.
 pub struct Libraries {
     pub now: Library,
@@ -92,6 +101,7 @@ impl Libraries {
 pub struct Library {
     relate: Relate,
     check_log: ReadLog,
+    check_line: TakeLine,
 }
 
 impl Library {
@@ -135,7 +145,19 @@ impl Library {
             }
         };
         let relate = unsafe { mem::transmute::<*mut c_void, Relate>(relate) };
-        Ok(Library { relate, check_log })
+        let check_line = call_of(library, c"scene_log_check_line")?;
+        // Safe: as above; this call has never taken a mode.
+        let check_line = unsafe {
+            match takes {
+                Takes::Mode | Takes::NoMode => {
+                    TakeLine::WithLayout(mem::transmute::<*mut c_void, CheckLine>(check_line))
+                }
+                Takes::NoLayout => {
+                    TakeLine::WithoutLayout(mem::transmute::<*mut c_void, CheckLineWithoutLayout>(check_line))
+                }
+            }
+        };
+        Ok(Library { relate, check_log, check_line })
     }
 
     /// The answer of relating two runs of a record: the relation's number, or a refusal, from 65,536 on.
@@ -150,6 +172,23 @@ impl Library {
         let (work, verdicts) = ((work.as_mut_ptr(), work.len()), (verdicts.as_mut_ptr(), verdicts.len()));
         // Safe: each pointer comes with the length of its own slice, and `&mut` slices do not overlap others.
         unsafe { self.check_log_at((rule.as_ptr(), rule.len()), (log.as_ptr(), log.len()), work, verdicts) }
+    }
+
+    /// The answer of taking one line on a record, in the square layout: 1 where the rule holds, 0 where it fails, or a
+    /// refusal, from 65,536 on.
+    pub fn check_line(&self, rule: &[u8], record: &mut [u8], work: &mut [u8], line: &[u8]) -> u32 {
+        let (rule_at, line_at) = (rule.as_ptr(), line.as_ptr());
+        let (record_at, work_at) = (record.as_mut_ptr(), work.as_mut_ptr());
+        let (rule, record, work, line) = (rule.len(), record.len(), work.len(), line.len());
+        // Safe: as above.
+        unsafe {
+            match self.check_line {
+                TakeLine::WithLayout(call) => {
+                    call(Layout::Square.number(), rule_at, rule, record_at, record, work_at, work, line_at, line)
+                }
+                TakeLine::WithoutLayout(call) => call(rule_at, rule, record_at, record, work_at, work, line_at, line),
+            }
+        }
     }
 
     /// The same on buffers that are each a pointer and a length.
@@ -243,10 +282,15 @@ pub mod tests {
     const CHECK_LOG_WITHOUT_LAYOUT: &str = "unsigned scene_log_check_log(const char *r, unsigned long a, \
         const char *l, unsigned long b, char *w, unsigned long c, char *v, unsigned long d)";
 
-    /// A library whose calls answer these numbers and write nothing.
+    const CHECK_LINE: &str = "unsigned scene_log_check_line(unsigned k, const char *r, unsigned long a, \
+        char *c, unsigned long b, char *w, unsigned long d, const char *l, unsigned long e)";
+    const CHECK_LINE_WITHOUT_LAYOUT: &str = "unsigned scene_log_check_line(const char *r, unsigned long a, \
+        char *c, unsigned long b, char *w, unsigned long d, const char *l, unsigned long e)";
+
+    /// A library whose calls answer these numbers and write nothing; a line is taken, and fails.
     pub fn library_that_answers(relate: u32, check_log: u32) -> Library {
-        let text = format!("{RELATE} {{ return {relate}; }}\n{CHECK_LOG} {{ return {check_log}; }}");
-        library_of(&text, Takes::Mode).unwrap()
+        let logs = format!("{RELATE} {{ return {relate}; }}\n{CHECK_LOG} {{ return {check_log}; }}");
+        library_of(&format!("{logs}\n{CHECK_LINE} {{ return 0; }}"), Takes::Mode).unwrap()
     }
 
     /// The calls that a version can have.
@@ -267,7 +311,19 @@ pub mod tests {
                 Takes::NoMode => ("+ 20000 * (k + 1)", 24_321),
                 Takes::NoLayout => ("+ 30000", 34_321),
             };
-            let library = library_of(&format!("{RELATE} {{ return 1; }}\n{head} {body} {named}; }}"), takes).unwrap();
+            // One line has no mode. Its record has 2 bytes, and the line 4.
+            let (line_head, layout, line_expected) = match takes {
+                Takes::Mode | Takes::NoMode => (CHECK_LINE, "+ 50000 * (k + 1)", 54_321),
+                Takes::NoLayout => (CHECK_LINE_WITHOUT_LAYOUT, "+ 60000", 64_321),
+            };
+            let line_body = "{ c[1] = *r; w[2] = l[3]; return a + 10 * b + 100 * d + 1000 * e";
+            let text = format!(
+                "{RELATE} {{ return 1; }}\n{head} {body} {named}; }}\n{line_head} {line_body} {layout}; }}"
+            );
+            let library = library_of(&text, takes).unwrap();
+            let (mut record, mut work) = ([7; 2], [7; 3]);
+            assert_eq!(library.check_line(&[5], &mut record, &mut work, &[0, 0, 0, 6]), line_expected);
+            assert_eq!((record, work), ([7, 5], [7, 7, 6]));
             let (mut work, mut verdicts) = ([7; 3], [7; 4]);
             assert_eq!(library.check_log(&[5], &[0, 6], &mut work, &mut verdicts), expected);
             assert_eq!((work, verdicts), ([7, 7, 5], [7, 7, 7, 6]));
@@ -280,7 +336,8 @@ pub mod tests {
         for (head, has) in CHECK_LOGS {
             let layout = if has == Takes::NoLayout { "" } else { "if (k > 1) return 20 << 16;" };
             let refusals = "if (c < 16384 || d < 256) return 20 << 16; return a < 1 ? 1 << 16 : 0;";
-            let text = format!("{RELATE} {{ return 1; }}\n{head} {{ {layout} {refusals} }}");
+            let others = format!("{RELATE} {{ return 1; }}\n{CHECK_LINE} {{ return 0; }}");
+            let text = format!("{others}\n{head} {{ {layout} {refusals} }}");
             for (_, takes) in CHECK_LOGS {
                 let is_right = library_of(&text, takes).unwrap().is_called_right();
                 assert_eq!(is_right, takes == has, "{has:?} called as {takes:?}");
@@ -307,6 +364,13 @@ pub mod tests {
             let answer = scene_log::check_log(layout, mode, &rule, &log.bytes, &mut left_now.0, &mut left_now.1);
             assert_eq!(answer, Ok(18));
             assert!(left == left_now);
+            // A line more, which is taken, and one that is refused.
+            for (line, expected) in [(&b"B 99 test\n"[..], 1), (b"E 98\n", 16 << 16)] {
+                let (mut one, mut other) = ((record.clone(), left.0.clone()), (record.clone(), left.0.clone()));
+                assert_eq!(library.check_line(&rule, &mut one.0, &mut one.1, line), expected);
+                let taken = scene_log::check_line(layout, &rule, &mut other.0, &mut other.1, line);
+                assert_eq!((taken.is_ok(), one == other), (expected == 1, true));
+            }
             // A line without LF as the 19th, and the number of its refusal.
             let log = [&log.bytes[..], b"B 99"].concat();
             assert_eq!(library.check_log(&rule, &log, &mut left.0, &mut left.1), (11 << 16) + 19);
@@ -323,5 +387,7 @@ pub mod tests {
         assert!(message(library_of("int other;", Takes::Mode)).contains("scene_log_relate"));
         let relate_alone = format!("{RELATE} {{ return 1; }}");
         assert!(message(library_of(&relate_alone, Takes::Mode)).contains("scene_log_check_log"));
+        let no_line = format!("{relate_alone}\n{CHECK_LOG} {{ return 1; }}");
+        assert!(message(library_of(&no_line, Takes::Mode)).contains("scene_log_check_line"));
     }
 }

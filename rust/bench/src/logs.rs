@@ -14,6 +14,8 @@
 //!   the first line with which the rule fails can be in the middle of a full log.
 //! - "few ids" and "fresh ids": the same lines but for their ids, which all have three digits. Begins and ends are
 //!   mixed at random, and no more runs are open at a time than there are few ids.
+//! - "4 words" and "64 long labels": interleaved, or with all begins first, with labels of capitals. Of the long ones
+//!   each has 24 letters, so that no log has more letters to read.
 //!
 //! The random source is seeded, so a log is the same in every run.
 
@@ -22,8 +24,9 @@ use generate::random::Random;
 use scene_log::{check_log_record, Layout, Mode, RECORD_BYTES, VERDICT_BYTES, WORK_BYTES};
 use std::fmt::Write;
 
-/// The most runs of a log.
+/// The most runs of a log, and the most labels.
 pub const MAX_RUNS: usize = 128;
+pub const MAX_LABELS: usize = 64;
 
 /// A log: what it is called in the table, how many runs it has, its bytes.
 #[derive(Clone)]
@@ -150,6 +153,25 @@ pub fn begins_first_by(seed: u64, runs: usize, labels: &[impl AsRef<str>]) -> Lo
         writer.end_any();
     }
     writer.log("begins first")
+}
+
+/// Four labels of a few capitals, and 64 of 24 capitals.
+pub const WORDS: [&str; 4] = ["EVENING", "TEST", "MORNING", "DL_IMAGE"];
+
+pub fn long_labels() -> Vec<String> {
+    let random = &mut Random::new(9);
+    (0..MAX_LABELS).map(|_| (0..24).map(|_| char::from(random.between(65, 90) as u8)).collect()).collect()
+}
+
+/// The same log with its labels in small letters.
+pub fn in_small_letters(log: &Log) -> Log {
+    let label_of = |line: &[u8]| line.split(|byte| *byte == b' ').take(2).map(|word| word.len() + 1).sum::<usize>();
+    let mut bytes = log.bytes.clone();
+    for line in bytes.split_inclusive_mut(|byte| *byte == b'\n') {
+        let front = label_of(line).min(line.len());
+        line[front..].make_ascii_lowercase();
+    }
+    Log { bytes, ..log.clone() }
 }
 
 /// The first of ids that all have three digits.

@@ -78,7 +78,7 @@ const GROUPS: [(&str, &str); 9] = [
     (EARLIER, "Beside an earlier library"),
 ];
 
-/// The group that also has a table of logs whose runs share few ids.
+/// The group that also has tables of logs whose runs share few ids, and of logs in small letters.
 const READING: &str = "reading";
 
 /// The groups with tables of their own: that which has texts instead of logs, that of the runs that break a rule, those
@@ -204,6 +204,7 @@ fn main() -> ExitCode {
         }
         if *name == READING {
             reading.measure_few(longest);
+            reading.measure_small(longest);
         }
     }
     let typed = title_of(TYPED).map(typed::measured);

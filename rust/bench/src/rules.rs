@@ -16,7 +16,7 @@ impl Case {
     /// The labels that the rule names.
     pub fn labels(&self) -> Vec<String> {
         let rule = read_rule(&self.file).expect("a legal rule");
-        rule.labels.into_iter().map(|label| String::from_utf8(label).expect("capitals, digits and _")).collect()
+        rule.labels.into_iter().map(|label| String::from_utf8(label).expect("letters, digits and _")).collect()
     }
 }
 

@@ -6,7 +6,8 @@
 //! leaves in each buffer. To hold another implementation against the reference, give it
 //! the same case and compare with the answers. The cases of a seed in either layout
 //! differ in their work areas alone. A whole log is read in both modes; so that they
-//! differ, in many cases the rule first fails in the middle of the log.
+//! differ, in many cases the rule first fails in the middle of the log. Labels are written
+//! in capitals, in small letters or in both, in the rule and in the log apart.
 //!
 //! `texts` has cases of its own for rules typed by hand: `text_case(seed)` for reading a
 //! text, `rule_case(seed)` for writing one. `slips` has those for the runs that break a
@@ -14,6 +15,7 @@
 //! `position_case(seed)`.
 
 pub mod areas;
+pub mod letters;
 pub mod logs;
 pub mod positions;
 pub mod random;
@@ -24,6 +26,7 @@ pub mod texts;
 pub mod typed;
 
 use areas::{area_of, lent_area, Fault};
+use letters::Letters;
 use random::Random;
 use reference::calls::{
     check_line, check_line_with_tally, check_log, compose, converse, counts_of, finished_runs, next_line,
@@ -209,17 +212,12 @@ pub fn reference_answers(case: &Case) -> Answers {
     }
 }
 
-/// Labels for the rule's list: none to 16, all different.
+/// Labels for the rule's list: none to 16, all different, in letters of either case.
 fn some_labels(random: &mut Random) -> Vec<Vec<u8>> {
     let wanted = *random.pick(&[0, 1, 1, 2, 2, 2, 3, 4, 16]);
-    let mut labels: Vec<Vec<u8>> = Vec::new();
-    while labels.len() < wanted {
-        let label = logs::any_label(random);
-        if !labels.contains(&label) {
-            labels.push(label);
-        }
-    }
-    labels
+    let labels = logs::different_labels(random, wanted);
+    let letters = Letters::any(random);
+    labels.iter().map(|label| letters.write(random, label)).collect()
 }
 
 /// A legal rule that can be judged over these lines without too much work.
@@ -285,7 +283,8 @@ fn formulas_looked_at(formula: &Formula, finished: u64) -> u64 {
 /// The rule's file, in a good part of the cases with a fault or two.
 fn rule_file(random: &mut Random, rule: &Rule) -> Vec<u8> {
     match random.below(100) {
-        0..=74 => rule.to_bytes(),
+        0..=72 => rule.to_bytes(),
+        73..=74 => rules::listed_in_another_case(random, rule),
         75..=92 => {
             let number = random.between(1, 10) as u8;
             rules::damaged_file(random, rule, number)

@@ -1,11 +1,13 @@
 //! Logs and lines: accepted ones, and ones with a fault of each number 11 to 13
 //! and 15 to 19.
 
+use crate::letters::{in_another_case, Letters, BESIDE_LETTERS};
 use crate::random::Random;
+use reference::label::is_label_byte;
 use reference::line::Event;
 use reference::record::first_place;
 use reference::trace::{accepted_lines, labels_of, runs_of};
-use reference::{is_label_byte, MAX_LABELS, MAX_RUNS};
+use reference::{MAX_LABELS, MAX_RUNS};
 
 /// A log, and what it is meant to be; for messages.
 pub struct Log {
@@ -40,7 +42,7 @@ pub fn any_log(random: &mut Random, rule_labels: &[Vec<u8>]) -> Log {
         84..=94 => noise(random, rule_labels),
         _ => {
             let length = random.below(90);
-            let bytes = (0..length).map(|_| *random.pick(b"BE 0123456789AZ_\n\n\r\tbe-\0\xff")).collect();
+            let bytes = (0..length).map(|_| *random.pick(b"BE 0123456789AZaz_\n\n\r\tbe-\0\xff")).collect();
             Log { bytes, kind: "random bytes" }
         }
     }
@@ -58,10 +60,22 @@ fn label_choices(random: &mut Random, rule_labels: &[Vec<u8>]) -> Vec<Vec<u8>> {
     labels
 }
 
-/// A label of any legal length; short ones often.
+/// A label of any legal length, in capitals; short ones often.
 pub fn any_label(random: &mut Random) -> Vec<u8> {
     let length = *random.pick(&[1, 1, 2, 4, 8, 23, 24]);
     (0..length).map(|_| *random.pick(b"ABCXYZ019_")).collect()
+}
+
+/// So many different labels, in capitals.
+pub fn different_labels(random: &mut Random, count: usize) -> Vec<Vec<u8>> {
+    let mut labels: Vec<Vec<u8>> = Vec::new();
+    while labels.len() < count {
+        let label = any_label(random);
+        if !labels.contains(&label) {
+            labels.push(label);
+        }
+    }
+    labels
 }
 
 /// Labels that fall on one first place or the ones beside it, near 127 half of the time.
@@ -168,8 +182,10 @@ impl Ids {
     }
 }
 
-/// The lines of one run for each label given, in a random order that is accepted.
+/// The lines of one run for each label given, in a random order that is accepted. The labels are written in letters of
+/// either case.
 fn interleave(random: &mut Random, labels: &[Option<Vec<u8>>], stay_open: bool) -> Vec<u8> {
+    let letters = Letters::any(random);
     let least = if labels.len() == MAX_RUNS && random.chance(1, 2) { 10000 } else { 1 };
     let ids = Ids::any(random, least);
     let mut bytes = Vec::new();
@@ -181,7 +197,8 @@ fn interleave(random: &mut Random, labels: &[Option<Vec<u8>>], stay_open: bool) 
         let may_begin = begun.len() < labels.len() && (open.is_empty() || random.chance(begin_weight, 6));
         let id = if may_begin { ids.next(random, &begun, &open) } else { None };
         if let Some(id) = id {
-            bytes.extend(begin_line(id, labels[begun.len()].as_deref()));
+            let label = labels[begun.len()].as_ref().map(|label| letters.write(random, label));
+            bytes.extend(begin_line(id, label.as_deref()));
             begun.push(id);
             open.push(id);
         } else {
@@ -286,7 +303,8 @@ fn with_fault_of(random: &mut Random, log: Log, number: u8) -> Log {
         4 => {
             // A tail that goes past 8,192 bytes.
             while bytes.len() < 9000 {
-                bytes.extend(random.pick(&[&b"B 4711 TEST\n"[..], b"E 4711\n", b"\n", b"XXXXXXXXXXXXXXXXXXX"]).to_vec());
+                let lines: [&[u8]; 4] = [b"B 4711 TEST\n", b"E 4711\n", b"\n", b"XXXXXXXXXXXXXXXXXXX"];
+                bytes.extend(*random.pick(&lines));
             }
         }
         5 => {
@@ -302,7 +320,8 @@ fn with_fault_of(random: &mut Random, log: Log, number: u8) -> Log {
 pub fn faulty_line(random: &mut Random, accepted: &[Event], number: u8) -> Vec<u8> {
     let UsedIds { begun, open, closed } = UsedIds::of(accepted);
     let fresh = fresh_id(random, &begun);
-    let known_label = labels_of(accepted).first().map(|label| label.to_vec());
+    let known_label = labels_of(accepted).first().map(|label| in_another_case(random, label));
+    let new_label = Letters::any(random).write(random, b"NEW_LABEL");
     match number {
         11 => line_without_form(random, fresh),
         12 => {
@@ -326,29 +345,31 @@ pub fn faulty_line(random: &mut Random, accepted: &[Event], number: u8) -> Vec<u
             // A run of the id may be open: the label is judged first.
             let id = if random.chance(1, 3) && !begun.is_empty() { *random.pick(&begun) } else { fresh };
             let mut line = format!("B {id} ").into_bytes();
-            let label: Vec<u8> = match random.below(6) {
-                0 => vec![b'A'; 25],
+            let letters = Letters::any(random);
+            let label: Vec<u8> = match random.below(8) {
+                0 => letters.write(random, &[b'A'; 25]),
                 // The LF is the 40th byte.
-                1 => vec![b'A'; 39 - line.len()],
+                1 => letters.write(random, &vec![b'A'; 39 - line.len()]),
                 2 => label_with_a_wrong_byte(random),
                 3 => b" X".to_vec(),
-                4 => b"TEST\r".to_vec(),
-                _ => random.pick(&[&b"test"[..], b"A B", b"A ", b"-", b"\0", b"\xc3\x84", b"@", b"[", b"/", b":", b"`"]).to_vec(),
+                4 => letters.write(random, b"TEST\r"),
+                5 => vec![*random.pick(BESIDE_LETTERS)],
+                _ => random.pick(&[&b"te-st"[..], b"A B", b"a ", b"-", b"\0", b"\xc3\x84", b"\xc3\xa4"]).to_vec(),
             };
             line.extend(label);
             line.push(b'\n');
             line
         }
         15 if !begun.is_empty() => {
-            let label = random.pick(&[None, Some(&b"NEW_LABEL"[..]), Some(b"TEST")]).map(|label| label.to_vec());
+            let label = random.pick(&[None, Some(new_label), known_label]).clone();
             begin_line(*random.pick(if open.is_empty() { &begun } else { &open }), label.as_deref())
         }
         17 if !closed.is_empty() => end_line(*random.pick(&closed)),
         18 => {
-            let label = random.pick(&[None, known_label, Some(b"NEW_LABEL".to_vec())]).clone();
+            let label = random.pick(&[None, known_label, Some(new_label)]).clone();
             begin_line(fresh_or_closed(random, fresh, &closed), label.as_deref())
         }
-        19 => begin_line(fresh_or_closed(random, fresh, &closed), Some(b"NEW_LABEL")),
+        19 => begin_line(fresh_or_closed(random, fresh, &closed), Some(&new_label)),
         _ => end_line(fresh),
     }
 }
@@ -377,12 +398,12 @@ fn fresh_or_closed(random: &mut Random, fresh: u64, closed: &[u64]) -> u64 {
     if !closed.is_empty() && random.chance(1, 2) { *random.pick(closed) } else { fresh }
 }
 
-/// A label of a right length with one byte that no label has.
+/// A label of a right length with one byte that no label has, as often as not one beside the letters.
 fn label_with_a_wrong_byte(random: &mut Random) -> Vec<u8> {
     let length = random.between(1, 24);
-    let mut label = vec![b'A'; length];
+    let mut label = Letters::any(random).write(random, &vec![b'A'; length]);
     let wrong = loop {
-        let byte = random.byte();
+        let byte = if random.chance(1, 2) { *random.pick(BESIDE_LETTERS) } else { random.byte() };
         if !is_label_byte(byte) && byte != b'\n' {
             break byte;
         }
@@ -395,7 +416,7 @@ fn label_with_a_wrong_byte(random: &mut Random) -> Vec<u8> {
 /// A line that is not of the two forms.
 fn line_without_form(random: &mut Random, id: u64) -> Vec<u8> {
     let long = |length: usize| [format!("B {id} ").into_bytes(), vec![b'A'; length], b"\n".to_vec()].concat();
-    match random.below(28) {
+    match random.below(31) {
         0 => b"\n".to_vec(),
         1 => b"B\n".to_vec(),
         2 => b"B \n".to_vec(),
@@ -424,6 +445,10 @@ fn line_without_form(random: &mut Random, id: u64) -> Vec<u8> {
         24 => b"B \xd9\xa1\n".to_vec(),
         // A good line but for its LF.
         25..=26 => format!("B {id}").into_bytes(),
+        // A good line but for its B or E, which is no label.
+        27 => format!("b {id} TEST\n").into_bytes(),
+        28 => format!("b {id} test\n").into_bytes(),
+        29 => format!("{} {id}\n", random.pick(&["b", "e"])).into_bytes(),
         _ => {
             let length = random.below(12);
             [random.bytes(length), b"\n".to_vec()].concat()
@@ -434,6 +459,7 @@ fn line_without_form(random: &mut Random, id: u64) -> Vec<u8> {
 /// Lines of all kinds with few ids, so that every state is met. Most fit the lines before them.
 fn noise(random: &mut Random, rule_labels: &[Vec<u8>]) -> Log {
     let choices = label_choices(random, rule_labels);
+    let letters = Letters::any(random);
     let mut bytes = Vec::new();
     let mut open: Vec<u64> = Vec::new();
     let wrong = random.below(3);
@@ -445,7 +471,8 @@ fn noise(random: &mut Random, rule_labels: &[Vec<u8>]) -> Log {
             let number = *random.pick(&LINE_REFUSALS);
             bytes.extend(faulty_line(random, &[], number));
         } else if open.contains(&id) != fits {
-            let label = random.chance(2, 3).then(|| random.pick(&choices).clone());
+            let label = random.chance(2, 3).then(|| random.pick(&choices));
+            let label = label.map(|label| letters.write(random, label));
             bytes.extend(begin_line(id, label.as_deref()));
             open.push(id);
         } else {
@@ -461,8 +488,11 @@ pub fn next_line(random: &mut Random, accepted: &[Event], rule_labels: &[Vec<u8>
     let UsedIds { begun, open, closed } = UsedIds::of(accepted);
     match random.below(12) {
         0..=3 => {
-            let choices = label_choices(random, rule_labels);
-            let label = random.chance(3, 4).then(|| random.pick(&choices).clone());
+            let mut choices = label_choices(random, rule_labels);
+            choices.extend(labels_of(accepted).first().map(|label| label.to_vec()));
+            let letters = Letters::any(random);
+            let label = random.chance(3, 4).then(|| random.pick(&choices));
+            let label = label.map(|label| letters.write(random, label));
             let fresh = fresh_id(random, &begun);
             begin_line(fresh_or_closed(random, fresh, &closed), label.as_deref())
         }

@@ -5,7 +5,7 @@
 
 use crate::random::Random;
 use reference::calls::Tally;
-use reference::record::{Record, RunEntry};
+use reference::record::{fnv1a, Record, RunEntry};
 
 /// How two runs that share an id stand to each other. The first is the one that begins first.
 #[derive(Clone, Copy, PartialEq, Eq, PartialOrd, Ord, Debug)]
@@ -76,7 +76,83 @@ pub fn share_any_id(random: &mut Random, record: &mut Record) {
     let _ = ways.iter().any(|sharing| share_id(random, record, *sharing));
 }
 
-/// Changes one field, or swaps two entries. Some changes leave a real record.
+/// How small letters come into a record, whose labels and places are those of capitals.
+#[derive(Clone, Copy, PartialEq, Eq, PartialOrd, Ord, Debug)]
+pub enum Small {
+    /// One letter of a label.
+    Letter,
+    /// All letters of a label.
+    Label,
+    /// All letters of all labels, each of which has the place that these bytes would have.
+    LabelsAndPlaces,
+    /// A label becomes an earlier one in small letters, and has the place that these bytes would have.
+    Twin,
+    /// The labels stay in capitals, and one has the place that its small letters would have.
+    Place,
+}
+
+pub const SMALLS: [Small; 5] = [Small::Letter, Small::Label, Small::LabelsAndPlaces, Small::Twin, Small::Place];
+
+/// The bytes of the labels of a record.
+fn labels_in(record: &Record) -> Vec<Vec<u8>> {
+    let used = record.labels.iter().take_while(|label| (1..=24).contains(&label.length));
+    used.map(|label| label.bytes[..usize::from(label.length)].to_vec()).collect()
+}
+
+/// The places of labels whose hash runs over these bytes as they are.
+fn places_of(labels: &[Vec<u8>]) -> [u8; 128] {
+    let mut places = [0; 128];
+    for (label, number) in labels.iter().zip(1..) {
+        let mut place = fnv1a(label) as usize % 128;
+        while places[place] != 0 {
+            place = (place + 1) % 128;
+        }
+        places[place] = number;
+    }
+    places
+}
+
+/// Brings small letters into a record in this way, and answers whether it has labels for that. No lines leave the
+/// record then, but where only a place was to change and the places are the same in either case.
+pub fn make_small(random: &mut Random, record: &mut Record, way: Small) -> bool {
+    let mut labels = labels_in(record);
+    let with_letters: Vec<usize> =
+        (0..labels.len()).filter(|label| labels[*label].iter().any(u8::is_ascii_uppercase)).collect();
+    if with_letters.is_empty() {
+        return false;
+    }
+    let label = *random.pick(&with_letters);
+    match way {
+        Small::Letter => {
+            let bytes = &mut record.labels[label].bytes;
+            let capitals: Vec<usize> = (0..24).filter(|at| bytes[*at].is_ascii_uppercase()).collect();
+            bytes[*random.pick(&capitals)] += 32;
+        }
+        Small::Label => record.labels[label].bytes.make_ascii_lowercase(),
+        Small::LabelsAndPlaces => {
+            labels.iter_mut().for_each(|label| label.make_ascii_lowercase());
+            record.labels.iter_mut().for_each(|label| label.bytes.make_ascii_lowercase());
+            record.places = places_of(&labels);
+        }
+        Small::Twin => {
+            if label + 1 == labels.len() {
+                return false;
+            }
+            let twin = random.between(label + 1, labels.len() - 1);
+            record.labels[twin] = record.labels[label];
+            record.labels[twin].bytes.make_ascii_lowercase();
+            labels[twin] = labels[label].to_ascii_lowercase();
+            record.places = places_of(&labels);
+        }
+        Small::Place => {
+            labels[label].make_ascii_lowercase();
+            record.places = places_of(&labels);
+        }
+    }
+    true
+}
+
+/// Changes one field, or swaps two entries, or brings in small letters. Some changes leave a real record.
 pub fn damage_record(random: &mut Random, record: &mut Record) {
     let runs = record.runs.iter().filter(|run| run.id != 0).count();
     let labels = record.labels.iter().filter(|label| label.length != 0).count();
@@ -98,7 +174,7 @@ pub fn damage_record(random: &mut Random, record: &mut Record) {
         4 => (value + 256) % 65536,
         _ => random.between(0, 65535) as u64,
     };
-    match random.below(20) {
+    match random.below(24) {
         0 => record.runs[run].id = near(random, record.runs[run].id).min(65535),
         1 => record.runs[run].id = record.runs[other_run].id,
         2..=3 => record.runs[run].begin = near(random, record.runs[run].begin).min(65535),
@@ -111,7 +187,7 @@ pub fn damage_record(random: &mut Random, record: &mut Record) {
         11 => {
             let length = usize::from(record.labels[label].length).clamp(1, 24);
             let at = random.below(length);
-            record.labels[label].bytes[at] = *random.pick(&[b'A', b'Z', b'a', b' ', b'\n', 0, 255]);
+            record.labels[label].bytes[at] = *random.pick(b"AZaz_@[`{ \n\0\xe1\xff");
         }
         12 => {
             // A byte past the label's length.
@@ -132,7 +208,11 @@ pub fn damage_record(random: &mut Random, record: &mut Record) {
             }
         }
         17 => record.lines = near(random, record.lines).min(65535),
-        _ => share_any_id(random, record),
+        18..=19 => share_any_id(random, record),
+        _ => {
+            let way = *random.pick(&SMALLS);
+            make_small(random, record, way);
+        }
     }
 }
 

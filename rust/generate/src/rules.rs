@@ -1,5 +1,6 @@
 //! Rule files: legal ones, and ones with a fault of each number 1 to 10.
 
+use crate::letters::{in_another_case, Letters, BESIDE_LETTERS};
 use crate::random::Random;
 use reference::rule::{Node, Rule, AND, BEFORE, HAS_LABEL, INCLUDES, MAX_NODES, NOT, OVERLAPS, SAME, SOME};
 
@@ -34,7 +35,9 @@ pub fn negated(mut rule: Rule) -> Rule {
 
 /// A legal rule with as many labels and nodes as a file can hold: 599 bytes.
 pub fn longest_rule(random: &mut Random) -> Rule {
-    let labels: Vec<Vec<u8>> = (0..16).map(|n| format!("{:_>24}", format!("L{n}")).into_bytes()).collect();
+    let letters = Letters::any(random);
+    let label = |n: usize| format!("{:_>24}", format!("L{n}")).into_bytes();
+    let labels: Vec<Vec<u8>> = (0..16).map(|n| letters.write(random, &label(n))).collect();
     let mut tree = Tree::Atom(atom(random, &[0], labels.len()));
     while size(&tree) < 63 {
         let room = 63 - size(&tree);
@@ -259,8 +262,13 @@ pub fn damaged_file(random: &mut Random, rule: &Rule, number: u8) -> Vec<u8> {
             }
         }
         5 if rule.labels.is_empty() => {
-            file[5] = 1;
-            file.splice(labels_at..labels_at, random.pick(&[&b"\x00"[..], b"\x19", b"\x01a", b"\x02A-"]).to_vec());
+            let wrong = *random.pick(BESIDE_LETTERS);
+            let beside = [2, b'a', wrong];
+            // The last ones are two that differ only in case.
+            let lists: [&[u8]; 6] = [b"\x00", b"\x19", b"\x02A-", &beside, b"\x01A\x01a", b"\x03x_1\x03X_1"];
+            let place = random.below(lists.len());
+            file[5] = if place < 4 { 1 } else { 2 };
+            file.splice(labels_at..labels_at, lists[place].to_vec());
         }
         5 => match random.below(4) {
             0 => {
@@ -270,23 +278,17 @@ pub fn damaged_file(random: &mut Random, rule: &Rule, number: u8) -> Vec<u8> {
                     file.truncate(labels_at + 1);
                 }
             }
-            1 => file[labels_at + 1] = *random.pick(&[b'a', b'-', b' ', b'\n', 0, 128, b'@', b'[', b'/', b':', b'`']),
+            1 => {
+                let wrong = if random.chance(1, 2) { BESIDE_LETTERS } else { b"- \n\0'" };
+                file[labels_at + 1] = *random.pick(wrong);
+            }
             2 if rule.labels.len() < 16 => {
-                // One label listed again, at the front or as the last.
-                let again = rule.labels[random.below(rule.labels.len())].clone();
-                let at = if random.chance(1, 2) { labels_at } else { nodes_at - 1 };
-                file[5] += 1;
-                let again = [vec![again.len() as u8], again].concat();
-                let after = at + again.len();
-                file.splice(at..at, again);
-                // The file may end right after the label that is listed again.
-                if random.chance(1, 3) {
-                    file.truncate(after);
-                }
+                let again = random.pick(&rule.labels).clone();
+                file = listed_again(random, rule, again);
             }
             _ => {
                 // A wrong byte in the last label.
-                file[nodes_at - 2] = *random.pick(&[b'z', b' ', 0, 255]);
+                file[nodes_at - 2] = *random.pick(b"`{ \0\xfa\xff");
             }
         },
         6 => {
@@ -355,6 +357,32 @@ pub fn damaged_file(random: &mut Random, rule: &Rule, number: u8) -> Vec<u8> {
                 change_a_variable(random, rule, &mut file[nodes_at..]);
             }
         }
+    }
+    file
+}
+
+/// The file with one of its labels listed again in another case; the file as it is where it has no label, or no room
+/// for one more.
+pub fn listed_in_another_case(random: &mut Random, rule: &Rule) -> Vec<u8> {
+    if rule.labels.is_empty() || rule.labels.len() == 16 {
+        return rule.to_bytes();
+    }
+    let again = random.pick(&rule.labels);
+    let again = in_another_case(random, again);
+    listed_again(random, rule, again)
+}
+
+/// The file with this label in its list, at the front or as the last.
+fn listed_again(random: &mut Random, rule: &Rule, again: Vec<u8>) -> Vec<u8> {
+    let mut file = rule.to_bytes();
+    let at = if random.chance(1, 2) { 6 } else { file.len() - 3 * rule.nodes.len() - 1 };
+    file[5] += 1;
+    let again = [vec![again.len() as u8], again].concat();
+    let after = at + again.len();
+    file.splice(at..at, again);
+    // The file may end right after the label that is listed again.
+    if random.chance(1, 3) {
+        file.truncate(after);
     }
     file
 }

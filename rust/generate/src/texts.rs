@@ -1,9 +1,11 @@
 //! Texts of typed rules and rule files to be written out, with lent buffers: well-formed
 //! ones, ones at each limit, ones with a fault or two, and damaged ones.
 
+use crate::letters::{in_another_case, Letters, BESIDE_LETTERS};
+use crate::logs::different_labels;
 use crate::random::Random;
 use crate::typed::{
-    and, any_name, different_labels, exist, joined, name_of, not, or, Label, Name, Spacing, Stock, Typed,
+    and, any_name, exist, joined, name_in_another_case, name_of, not, or, Label, Name, Spacing, Stock, Typed,
 };
 use crate::{lent_buffer, rule_file, rules, some_labels};
 use reference::rule::{BEFORE, LONGEST_FILE, MAX_NODES, OVERLAPS, SAME};
@@ -105,7 +107,7 @@ pub fn rule_case(seed: u64) -> RuleCase {
 /// can hold.
 fn longest_written(random: &mut Random) -> Typed {
     let mut atoms: Vec<Typed> =
-        (0..32).map(|number| Typed::Has(b"A".to_vec(), format!("{:_>24}", number % 16).into_bytes())).collect();
+        (0..32).map(|number| Typed::Has(b"A".to_vec(), format!("{:L>24}", number % 16).into_bytes())).collect();
     // Any two neighbours are joined, until one is left.
     while atoms.len() > 1 {
         let at = random.below(atoms.len() - 1);
@@ -183,7 +185,7 @@ fn at_a_limit(random: &mut Random) -> Text {
         }
         _ => {
             let length = *random.pick(&[0, 0, 1, 23, 24, 24, 25, 25, 26]);
-            let label = (0..length).map(|_| *random.pick(b"AZ09_")).collect();
+            let label = (0..length).map(|_| *random.pick(b"AZaz09_")).collect();
             let parts = vec![has_label(random, label), some_tree(random)];
             let tree = chain(random, parts);
             let is_label = (1..=24).contains(&length);
@@ -227,8 +229,10 @@ fn tree_of_counts_past_a_byte(random: &mut Random) -> Typed {
     let name: Name = b"A".to_vec();
     if random.chance(1, 2) {
         let count = random.between(255, 275);
-        let atoms = (0..count).map(|number| Typed::Has(name.clone(), format!("L{number}").into_bytes()));
-        return exist(vec![name.clone()], atoms.reduce(and).expect("some labels"));
+        let letters = Letters::any(random);
+        let label = |number: usize| letters.write(random, format!("L{number}").as_bytes());
+        let atoms: Vec<Typed> = (0..count).map(label).map(|label| Typed::Has(name.clone(), label)).collect();
+        return exist(vec![name.clone()], atoms.into_iter().reduce(and).expect("some labels"));
     }
     let count = random.between(255, 322);
     let mut tree = exist(vec![name.clone()], Typed::Pair(OVERLAPS, name.clone(), name));
@@ -253,17 +257,19 @@ fn has_label(random: &mut Random, label: Label) -> Typed {
     exist(vec![name.clone()], Typed::Has(name, label))
 }
 
-/// A rule of exactly so many different labels, some of them more than once. Where they are
-/// too many, some may be bad.
+/// A rule of exactly so many different labels, some of them more than once, in the same
+/// letters or in others. Where they are too many, some may be bad.
 fn tree_of_labels(random: &mut Random, count: usize) -> Typed {
-    let mut labels = different_labels(random, count);
+    let letters = Letters::any(random);
+    let mut labels: Vec<Label> = different_labels(random, count);
+    labels.iter_mut().for_each(|label| *label = letters.write(random, label));
     if count > 16 && random.chance(1, 2) {
         let place = random.below(count);
         labels[place] = bad_label(random);
     }
     for _ in 0..random.below(6) {
         let again = random.pick(&labels).clone();
-        labels.push(again);
+        labels.push(if random.chance(1, 3) { again } else { in_another_case(random, &again) });
     }
     let name = any_name(random);
     let atoms = labels.into_iter().map(|label| Typed::Has(name.clone(), label));
@@ -273,12 +279,17 @@ fn tree_of_labels(random: &mut Random, count: usize) -> Typed {
 
 /// A label of a wrong length or with a wrong byte, which is no quote.
 fn bad_label(random: &mut Random) -> Label {
-    match random.below(3) {
+    match random.below(5) {
         0 => Vec::new(),
-        1 => vec![b'A'; random.between(25, 40)],
+        1 => {
+            let length = random.between(25, 40);
+            Letters::any(random).write(random, &vec![b'A'; length])
+        }
         _ => {
-            let ends: [&[u8]; 8] = [b"a", b" ", b"\n", b"-", b"(", b"\0", b"\xff", b"exist B . B<B"];
-            [b"A", *random.pick(&ends)].concat()
+            let beside = [*random.pick(BESIDE_LETTERS)];
+            let others: [&[u8]; 7] = [b" ", b"\n", b"-", b"(", b"\0", b"\xc3\xa4", b"exist B . B<B"];
+            let end = if random.chance(1, 2) { &beside } else { *random.pick(&others) };
+            [*random.pick(&[&b"A"[..], b"a"]), end].concat()
         }
     }
 }
@@ -338,6 +349,9 @@ fn faulty_part(random: &mut Random, number: Refusal) -> Typed {
         9 if random.chance(1, 3) => Typed::Has(any_name(random), b"TEST".to_vec()),
         9 => {
             let (name, mut free) = (any_name(random), any_name(random));
+            if random.chance(1, 3) {
+                free = name_in_another_case(random, &name);
+            }
             while free == name {
                 free = any_name(random);
             }
@@ -444,7 +458,7 @@ fn damage_bytes(random: &mut Random, text: &mut Vec<u8>) {
 
 /// A byte that some sign has, or that is easily taken for one.
 fn any_text_byte(random: &mut Random) -> u8 {
-    *random.pick(b"exist same ABCDXYZabz019oi!&|<()',.'_\n\n\t\r\0>=m\xff")
+    *random.pick(b"exist same ABCDXYZabz019oi!&|<()',.'_\n\n\t\r\0>=m@[`{\xe1\xff")
 }
 
 fn damage_signs(random: &mut Random, signs: &mut Vec<Vec<u8>>) {
@@ -466,9 +480,9 @@ fn damage_signs(random: &mut Random, signs: &mut Vec<Vec<u8>>) {
 }
 
 fn any_sign(random: &mut Random) -> Vec<u8> {
-    let signs: [&[u8]; 18] = [
-        b"exist", b"same", b"A", b"B", b"A1", b"'TEST'", b"''", b"'a'", b"<", b"o", b"i", b"!", b"&", b"|", b"(", b")",
-        b",", b".",
+    let signs: [&[u8]; 19] = [
+        b"exist", b"same", b"A", b"B", b"A1", b"'TEST'", b"'tesT'", b"''", b"'a-'", b"<", b"o", b"i", b"!", b"&", b"|",
+        b"(", b")", b",", b".",
     ];
     random.pick(&signs).to_vec()
 }

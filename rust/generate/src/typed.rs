@@ -3,7 +3,8 @@
 //! The rule is put together from the tree and not read from the text, so a reader of the
 //! text can be held against it.
 
-use crate::logs::any_label;
+use crate::letters::{in_another_case, Letters};
+use crate::logs::different_labels;
 use crate::random::Random;
 use reference::rule::{
     Node, Rule, AND, BEFORE, HAS_LABEL, INCLUDES, MAX_NESTED, MAX_NODES, MAX_RULE_LABELS, NOT, OVERLAPS, SAME, SOME,
@@ -51,7 +52,8 @@ impl Typed {
         }
     }
 
-    /// Whether it has more nodes or more different labels than a rule file can hold.
+    /// Whether it has more nodes or more different labels than a rule file can hold. Labels that
+    /// differ only in case are one.
     pub fn is_too_large(&self) -> bool {
         let mut labels = Vec::new();
         self.add_labels(&mut labels);
@@ -67,12 +69,12 @@ impl Typed {
                 second.add_labels(labels);
             }
             Typed::Not(child) | Typed::Exist(_, child) => child.add_labels(labels),
-            Typed::Has(_, label) => labels.push(label.clone()),
+            Typed::Has(_, label) => labels.push(label.to_ascii_uppercase()),
             Typed::Pair(..) => {}
         }
     }
 
-    /// The rule that it says. Every name is bound, and all counts are in their ranges.
+    /// The rule that it says, with labels in capitals. Every name is bound, and all counts are in their ranges.
     pub fn rule(&self) -> Rule {
         let mut rule = Rule { labels: Vec::new(), nodes: Vec::new() };
         self.add_to(&mut rule, &mut Vec::new());
@@ -110,10 +112,11 @@ impl Typed {
                 last
             }
             Typed::Has(name, label) => {
-                let listed = rule.labels.iter().position(|other| other == label);
+                let capitals = label.to_ascii_uppercase();
+                let listed = rule.labels.iter().position(|other| *other == capitals);
                 let place = listed.unwrap_or(rule.labels.len());
                 if listed.is_none() {
-                    rule.labels.push(label.clone());
+                    rule.labels.push(capitals);
                 }
                 add_node(rule, HAS_LABEL, level(name, bound), place as u8)
             }
@@ -262,6 +265,8 @@ pub struct Stock {
     /// Whether names are single letters.
     short_names: bool,
     labels: Vec<Label>,
+    /// How the labels are written.
+    letters: Letters,
     /// How many names may be bound one inside another.
     depth: usize,
 }
@@ -270,7 +275,8 @@ impl Stock {
     pub fn any(random: &mut Random) -> Stock {
         let count = *random.pick(&[0, 1, 2, 2, 3, 5, 10, 16]);
         let depth = *random.pick(&[1, 2, 3, 4, MAX_NESTED]);
-        Stock { short_names: random.chance(1, 3), labels: different_labels(random, count), depth }
+        let labels = different_labels(random, count);
+        Stock { short_names: random.chance(1, 3), labels, letters: Letters::any(random), depth }
     }
 
     /// A rule of at most so many nodes, two at least.
@@ -308,10 +314,14 @@ impl Stock {
         self.atom(random, bound)
     }
 
-    /// A name to bind, now and then one that is bound already.
+    /// A name to bind, now and then one that is bound already, or such a one in another case.
     fn new_name(&self, random: &mut Random, bound: &[Name]) -> Name {
         if !bound.is_empty() && random.chance(1, 6) {
             return random.pick(bound).clone();
+        }
+        if !bound.is_empty() && random.chance(1, 6) {
+            let name = random.pick(bound);
+            return name_in_another_case(random, name);
         }
         if self.short_names {
             vec![*random.pick(b"ABCDXO")]
@@ -323,7 +333,8 @@ impl Stock {
     fn atom(&self, random: &mut Random, bound: &[Name]) -> Typed {
         let a = random.pick(bound).clone();
         if !self.labels.is_empty() && random.chance(2, 5) {
-            return Typed::Has(a, random.pick(&self.labels).clone());
+            let label = random.pick(&self.labels);
+            return Typed::Has(a, self.letters.write(random, label));
         }
         Typed::Pair(*random.pick(&[BEFORE, OVERLAPS, INCLUDES, SAME]), a, random.pick(bound).clone())
     }
@@ -339,6 +350,11 @@ pub fn any_name(random: &mut Random) -> Name {
     name_of(random, length)
 }
 
+/// The name with one letter or more in the other case, where it has one behind its capital. It is another name.
+pub fn name_in_another_case(random: &mut Random, name: &[u8]) -> Name {
+    [&name[..1], &in_another_case(random, &name[1..])].concat()
+}
+
 /// A name of so many bytes.
 pub fn name_of(random: &mut Random, length: usize) -> Name {
     let mut name = vec![random.between(b'A'.into(), b'Z'.into()) as u8];
@@ -346,15 +362,4 @@ pub fn name_of(random: &mut Random, length: usize) -> Name {
         name.push(*random.pick(b"AZaz09oiexsm"));
     }
     name
-}
-
-pub fn different_labels(random: &mut Random, count: usize) -> Vec<Label> {
-    let mut labels: Vec<Label> = Vec::new();
-    while labels.len() < count {
-        let label = any_label(random);
-        if !labels.contains(&label) {
-            labels.push(label);
-        }
-    }
-    labels
 }

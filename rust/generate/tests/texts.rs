@@ -105,7 +105,10 @@ fn a_written_text_is_read_as_the_same_rule() {
         if answer.is_err() {
             continue;
         }
-        let formula = read_rule(&case.rule).unwrap().formula();
+        // The text has the labels in capitals.
+        let mut rule = read_rule(&case.rule).unwrap();
+        rule.labels.iter_mut().for_each(|label| label.make_ascii_uppercase());
+        let formula = rule.formula();
         let again = rule_file(&text[..written]).unwrap();
         let read = read_rule(&again).unwrap().formula();
         assert!(read == by_level(&formula, &mut Vec::new()), "seed {seed}");

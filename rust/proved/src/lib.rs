@@ -55,6 +55,27 @@
 //! # Ok::<(), scene_log::Refusal>(())
 //! ```
 //!
+//! Labels are written in letters of either case, in logs, rule files and typed rules: a to z count as A to Z. Capitals
+//! come back, in the record, in the rule file of a typed rule and in the text of a rule file. So a record with a small
+//! letter in a label is refused, and so is a rule file that lists one label in two cases:
+//!
+//! ```
+//! use scene_log::{relate, rule_file, rule_text, Check, Mode, Refusal};
+//!
+//! let rule = rule_file("exist A, B . A('Test') & B('TEST') & A < B")?;
+//! assert_eq!(rule_text(&rule)?, "(exist A.(exist B.((A('TEST')&B('TEST'))&A < B)))");
+//! let (check, lines) = Check::after_with_mode(Mode::Full, &rule, b"B 1 test\nE 1\nB 2 TeSt\nE 2\n");
+//! assert_eq!(lines, Ok(4));
+//! let mut record = *check.record;
+//! assert_eq!(record[900..905], *b"\x04TEST");
+//! assert!(relate(&record, 0, 1).is_ok());
+//! record[901] = b't';
+//! assert_eq!(relate(&record, 0, 1), Err(Refusal::NoRecord));
+//! let twice = b"RUL\x01\x00\x02\x01A\x01a\x02\x08\x00\x00\x03\x00\x00";
+//! assert_eq!(rule_text(twice), Err(Refusal::RuleLabel));
+//! # Ok::<(), scene_log::Refusal>(())
+//! ```
+//!
 //! A rule that fails may show its runs:
 //!
 //! ```
@@ -187,7 +208,7 @@ pub fn report(
 
 /// Reads a log with a rule file, through the first line with which the rule fails or in full: how many lines are taken,
 /// or where the log is refused and why. A verdict byte is written for each line that is taken, 1 holds, 0 fails. An id
-/// whose run has finished may begin a new run.
+/// whose run has finished may begin a new run. Labels are looked up in either case.
 ///
 /// ```
 /// use scene_log::{check_log, Layout, Mode, Refusal, VERDICT_BYTES, WORK_BYTES};
@@ -227,7 +248,8 @@ pub fn check_log(
     })
 }
 
-/// The same, with the record of the lines that were taken at the front of `record`.
+/// The same, with the record of the lines that were taken at the front of `record`. Its labels are in capitals, however
+/// the lines have them.
 pub fn check_log_record(
     layout: Layout,
     mode: Mode,
@@ -266,7 +288,9 @@ pub fn start(layout: Layout, record: &mut [u8], work: &mut [u8]) -> Result<(), R
     .map(|_| ())
 }
 
-/// Takes one line, with its LF, on a record and its work area: the verdict, or the refusal, which leaves both as they were.
+/// Takes one line, with its LF, on a record and its work area: the verdict, or the refusal, which leaves both as they
+/// were. The line's label and the rule's are looked up in either case; those of the record are capitals, or it is
+/// refused with [`Refusal::NoRecord`].
 pub fn check_line(
     layout: Layout,
     rule: &[u8],
@@ -461,7 +485,7 @@ pub fn converse(set: u32) -> Result<Relations, Refusal> {
     small_value(unsafe { c::scene_log_converse(set) }).map(|set| Relations(set as u8))
 }
 
-/// The 32-bit FNV-1a hash of the bytes.
+/// The 32-bit FNV-1a hash of the bytes as they are. In a record a label has the place that its capitals have.
 ///
 /// ```
 /// assert_eq!(scene_log::fnv1a(b"foobar"), 3214735720);

@@ -3,6 +3,7 @@
 use crate::{c, small_value, Refusal, RULE_BYTES, RULE_TEXT_BYTES};
 
 /// Reads a typed rule into a rule file at the start of `rule`, which has at least [`RULE_BYTES`]: the file's length.
+/// Its labels are in capitals, and those that differ only in case are one.
 ///
 /// ```
 /// use scene_log::{rule_from_text, Refusal, RULE_BYTES};
@@ -22,7 +23,7 @@ pub fn rule_from_text(text: &[u8], rule: &mut [u8]) -> Result<usize, Refusal> {
 }
 
 /// Writes a rule file out as a typed rule at the start of `text`, which has at least [`RULE_TEXT_BYTES`]: the text's
-/// length.
+/// length. Its labels are in capitals, however the file has them.
 ///
 /// ```
 /// use scene_log::{text_from_rule, Refusal, RULE_TEXT_BYTES};
@@ -40,7 +41,7 @@ pub fn text_from_rule(rule: &[u8], text: &mut [u8]) -> Result<usize, Refusal> {
         .map(usize::from)
 }
 
-/// The rule file of a typed rule.
+/// The rule file of a typed rule, with its labels in capitals.
 ///
 /// ```
 /// use scene_log::{check_log, rule_file, Layout, Mode, VERDICT_BYTES, WORK_BYTES};
@@ -58,7 +59,7 @@ pub fn rule_file(text: impl AsRef<[u8]>) -> Result<Vec<u8>, Refusal> {
     Ok(rule)
 }
 
-/// The text of a rule file, as it is typed.
+/// The text of a rule file, as it is typed, with its labels in capitals.
 ///
 /// ```
 /// use scene_log::{rule_file, rule_text};

@@ -356,9 +356,15 @@ fn p1_line_by_line_in(layout: scene_log::Layout, place: usize) {
     }
     // A refused line changes nothing: no open run of its id, an id above the range, a line without LF.
     let before = check.clone();
-    for (line, number) in [("E 7\n", 17), ("E 8\n", 16), ("B 65536\n", 12), ("B 8", 11), ("B 8 x\n", 13)] {
+    for (line, number) in [("E 7\n", 17), ("E 8\n", 16), ("B 65536\n", 12), ("B 8", 11), ("B 8 x-\n", 13)] {
         assert_eq!(numbered(check.line(&rule, line.as_bytes())), Err(number), "{line}");
     }
+    // A label in small letters is no other one: run 2 has label 1.
+    let mut taken = check.clone();
+    assert_eq!(numbered(taken.line(&rule, b"B 8 evening\n")), Ok(false));
+    assert_eq!(taken.record[..4], [5, 0, 3, 2]);
+    assert_eq!(taken.record[18..25], [8, 0, 5, 0, 0, 0, 1]);
+    assert!(taken.record[900..] == check.record[900..]);
     assert_eq!(check.line(b"RUX", b"B 8\n"), Err(Refusal::RuleMark));
     assert!(check == before);
     // One pair byte is changed, and no lines leave what is handed in. The relation is that of the record alone.

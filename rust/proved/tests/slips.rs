@@ -270,7 +270,7 @@ fn p1_with(faults: &[u8], has_not: bool) -> Vec<u8> {
     let mut file = if has(2) { b"RUX".to_vec() } else { b"RUL".to_vec() };
     file.extend(if has(3) { [2, 0] } else { [1, 0] });
     file.push(if has(4) { 17 } else { 2 });
-    file.extend(if has(5) { b"\x07evENING\x04TEST" } else { b"\x07EVENING\x04TEST" });
+    file.extend(if has(5) { b"\x07ev-NING\x04TEST" } else { b"\x07EVENING\x04TEST" });
     file.push(nodes.len() as u8);
     file.extend(nodes.concat());
     if has(7) {

@@ -1,10 +1,12 @@
 //! The interval logic (000, section 3) and its meaning over finished runs.
 
+use crate::label::are_one;
+
 /// A variable, 0 to 3.
 pub type Variable = usize;
 
-/// A rule as a formula. "has label" holds the label's bytes, so no numbering of
-/// labels takes part in what a rule means.
+/// A rule as a formula. "has label" holds the label's bytes as they were written, so no
+/// numbering of labels takes part in what a rule means.
 #[derive(Clone, PartialEq, Eq, Debug)]
 pub enum Formula {
     And(Box<Formula>, Box<Formula>),
@@ -49,13 +51,13 @@ pub fn satisfies(formula: &Formula, runs: &[FinishedRun], binding: Binding) -> b
             satisfies(child, runs, inner)
         }),
         // has label: the run has that label.
-        Formula::HasLabel(variable, label) => run(*variable).label == Some(label.as_slice()),
+        Formula::HasLabel(variable, label) => run(*variable).label.is_some_and(|of_run| are_one(of_run, label)),
         Formula::Before(a, b) => before(run(*a), run(*b)),
         Formula::Overlaps(a, b) => overlaps(run(*a), run(*b)),
         Formula::Includes(a, b) => includes(run(*a), run(*b)),
         // same: some label belongs to both.
         Formula::Same(a, b) => match (run(*a).label, run(*b).label) {
-            (Some(first), Some(second)) => first == second,
+            (Some(first), Some(second)) => are_one(first, second),
             _ => false,
         },
     }
@@ -138,6 +140,20 @@ mod tests {
         let rule = some(0, HasLabel(0, b"TEST".to_vec()));
         assert!(!is_true(&rule, &[run(1, 2, ""), run(3, 4, "EVENING")]));
         assert!(is_true(&rule, &[run(1, 2, ""), run(3, 4, "TEST")]));
+    }
+
+    #[test]
+    fn labels_are_looked_up_in_either_case() {
+        for label in ["TEST", "test", "Test", "tEST"] {
+            let rule = some(0, HasLabel(0, label.as_bytes().to_vec()));
+            for written in ["TEST", "test", "teST"] {
+                assert!(is_true(&rule, &[run(1, 2, written)]), "{label} {written}");
+            }
+            assert!(!is_true(&rule, &[run(1, 2, "TESTS"), run(3, 4, "TES"), run(5, 6, "")]));
+        }
+        let two_the_same = some(0, some(1, And(Box::new(Before(0, 1)), Box::new(Same(0, 1)))));
+        assert!(is_true(&two_the_same, &[run(1, 2, "a_1"), run(3, 4, "A_1")]));
+        assert!(!is_true(&two_the_same, &[run(1, 2, "a_1"), run(3, 4, "A_2"), run(5, 6, "")]));
     }
 
     #[test]

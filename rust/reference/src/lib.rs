@@ -4,6 +4,7 @@
 //! rule file and the list of lines accepted so far. So most modules here take
 //! one of these two and compute the answer afresh.
 //!
+//! - `label`: labels as they are written in either case, and their capitals.
 //! - `line`: what one line says, and how lines are cut from a log (11, 12, 13).
 //! - `trace`: the accepted lines, what a new line meets there (15 to 19), and the runs.
 //! - `rule`: reading a rule file (1 to 10).
@@ -19,6 +20,7 @@
 
 pub mod calls;
 pub mod formula;
+pub mod label;
 pub mod layout;
 pub mod line;
 pub mod reading;
@@ -55,13 +57,3 @@ pub const HALF_BYTES: usize = 8128;
 
 /// "a verdict buffer of at least 256 bytes".
 pub const VERDICT_BYTES: usize = 256;
-
-/// "A label is 1 to 24 bytes from A to Z, 0 to 9 and underscore."
-pub fn is_label(bytes: &[u8]) -> bool {
-    (1..=LABEL_LIMIT).contains(&bytes.len()) && bytes.iter().all(|&byte| is_label_byte(byte))
-}
-
-/// A byte "from A to Z, 0 to 9 and underscore".
-pub fn is_label_byte(byte: u8) -> bool {
-    byte.is_ascii_uppercase() || byte.is_ascii_digit() || byte == b'_'
-}

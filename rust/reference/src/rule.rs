@@ -5,7 +5,8 @@
 //! each over the whole table"
 
 use crate::formula::Formula;
-use crate::{is_label, Refusal, LABEL_LIMIT};
+use crate::label::{is_label, place_in};
+use crate::{Refusal, LABEL_LIMIT};
 
 pub const AND: u8 = 1;
 pub const NOT: u8 = 2;
@@ -35,7 +36,7 @@ pub struct Node {
     pub b: u8,
 }
 
-/// What a rule file that is not refused says.
+/// What a rule file that is not refused says. Its labels are as they were written.
 #[derive(Clone, PartialEq, Eq, Debug)]
 pub struct Rule {
     pub labels: Vec<Vec<u8>>,
@@ -122,8 +123,9 @@ pub fn read_rule(file: &[u8]) -> Result<Rule, Refusal> {
             return Err(5);
         }
         let label = rest.part(length)?.to_vec();
-        // "listed twice" belongs to the bytes of the second one.
-        if !is_label(&label) || labels.contains(&label) {
+        // "listed twice" belongs to the bytes of the second one; "5 does for two labels in a
+        // rule file's list that differ only in case".
+        if !is_label(&label) || place_in(&labels, &label).is_some() {
             return Err(5);
         }
         labels.push(label);
@@ -327,12 +329,32 @@ mod tests {
         assert_eq!(refusal(b"RUL\x01\x00\x01\x00"), 5);
         assert_eq!(refusal(b"RUL\x01\x00\x01\x19"), 5);
         assert_eq!(refusal(b"RUL\x01\x00\x01\x18"), 1);
-        assert_eq!(refusal(b"RUL\x01\x00\x01\x02a"), 1);
-        assert_eq!(refusal(b"RUL\x01\x00\x01\x02ab"), 5);
+        assert_eq!(refusal(b"RUL\x01\x00\x01\x02-"), 1);
+        assert_eq!(refusal(b"RUL\x01\x00\x01\x02-b"), 5);
         assert_eq!(refusal(b"RUL\x01\x00\x03\x01A\x01A"), 5);
         assert_eq!(refusal(b"RUL\x01\x00\x03\x01A\x01B"), 1);
         assert_eq!(refusal(&file(&["A", "AA", "B"], &SMALL)), 0);
         assert_eq!(refusal(&file(&["A", "AA", "A"], &SMALL)), 5);
+    }
+
+    #[test]
+    fn labels_of_a_file_in_either_case() {
+        // Each may be written in small letters, and the file's own bytes stay.
+        assert_eq!(refusal(b"RUL\x01\x00\x01\x02ab"), 1);
+        for labels in [&["a"][..], &["test", "Evening"], &["z", "Z_", "zZ"], &[&"z".repeat(24)]] {
+            let file = file(labels, &SMALL);
+            assert_eq!(read_rule(&file).unwrap().to_bytes(), file, "{labels:?}");
+        }
+        // "5 does for two labels in a rule file's list that differ only in case", met where the second stands.
+        for labels in [&["A", "a"][..], &["a", "A"], &["A", "B", "a"], &["Test", "tEST", "-"], &["a", "b", "B", ""]] {
+            assert_eq!(refusal(&file(labels, &SMALL)), 5, "{labels:?}");
+        }
+        assert_eq!(refusal(b"RUL\x01\x00\x03\x01A\x01"), 1);
+        assert_eq!(refusal(b"RUL\x01\x00\x03\x01A\x01a"), 5);
+        assert_eq!(refusal(b"RUL\x01\x00\x03\x01A\x01b"), 1);
+        for byte in b"@[`{\xc1\xda\xe1\xfa" {
+            assert_eq!(refusal(&[b"RUL\x01\x00\x01\x03t", &[*byte][..], b"T"].concat()), 5, "{byte}");
+        }
     }
 
     #[test]

@@ -8,8 +8,9 @@ mod signs;
 mod tree;
 mod written;
 
+use crate::label::{capitals, is_label, place_in};
 use crate::rule::{read_rule, Rule, MAX_NESTED, MAX_NODES, MAX_RULE_LABELS};
-use crate::{is_label, Refusal};
+use crate::Refusal;
 use signs::{signs_of, Sign};
 use tree::Tree;
 
@@ -35,17 +36,19 @@ pub fn rule_file(text: &[u8]) -> Result<Vec<u8>, Refusal> {
     if tree.nested() > MAX_NESTED {
         return Err(10);
     }
-    let labels = labels.into_iter().map(<[u8]>::to_vec).collect();
+    // "all rules written out keep the capital form"
+    let labels = labels.into_iter().map(capitals).collect();
     Ok(Rule { labels, nodes }.to_bytes())
 }
 
-/// The different labels in the order of their first appearance, bad ones among them;
-/// of more than a rule can have, only the first that is too many.
+/// The different labels in the order of their first appearance, bad ones among them, as they
+/// are written there; of more than a rule can have, only the first that is too many. Two that
+/// differ only in case: "in a typed rule those are one label".
 fn labels_of<'a>(signs: &[Sign<'a>]) -> Vec<&'a [u8]> {
     let mut labels = Vec::new();
     for sign in signs {
         match sign {
-            Sign::Label(label) if !labels.contains(label) => labels.push(*label),
+            Sign::Label(label) if place_in(&labels, label).is_none() => labels.push(*label),
             _ => {}
         }
         if labels.len() > MAX_RULE_LABELS {

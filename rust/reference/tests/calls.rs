@@ -191,11 +191,12 @@ fn a_refusal_is_met_before_the_first_failure_and_not_behind_it() {
             (answer.record.lines, answer.refusal)
         };
         // No run is finished with line 1, so the rule fails there.
-        for behind in ["X\n", "B 0\n", "B 2 x\n", "B 1\n", "E 2\n", "B 2", &"B 2\n".repeat(9000), ""] {
+        for behind in ["X\n", "B 0\n", "B 2 x-\n", "B 1\n", "E 2\n", "B 2", &"B 2\n".repeat(9000), ""] {
             let log = format!("B 1\n{behind}");
             assert_eq!(met(Mode::FirstFailure, &some_run, &log), (1, None), "{behind:?}");
             assert_eq!(met(Mode::Full, &some_run, &log).1.is_some(), !behind.is_empty(), "{behind:?}");
         }
+        assert_eq!(met(Mode::Full, &some_run, "B 1\nB 2 x\n"), (2, None));
         // Line 4 would fail, and line 3 is refused.
         let log = "B 7 EVENING\nB 9 TEST\nE 8\nE 9\nE 7\n";
         for mode in Mode::ALL {
@@ -248,9 +249,10 @@ fn the_order_of_refusals_of_the_single_line_call() {
         assert_eq!(met(&p1(), &sound, &wrong_work, wrong, "X\n"), Some(21));
         assert_eq!(met(&p1(), &sound, &work, wrong, "X\n"), Some(24));
         assert_eq!(met(&p1(), &sound, &work, right, "X\n"), Some(11));
-        assert_eq!(met(&p1(), &sound, &work, right, "B 70000 x\n"), Some(12));
-        assert_eq!(met(&p1(), &sound, &work, right, "B 7 x\n"), Some(13));
+        assert_eq!(met(&p1(), &sound, &work, right, "B 70000 x-\n"), Some(12));
+        assert_eq!(met(&p1(), &sound, &work, right, "B 7 x-\n"), Some(13));
         assert_eq!(met(&p1(), &sound, &work, right, "B 7 X\n"), Some(15));
+        assert_eq!(met(&p1(), &sound, &work, right, "B 7 x\n"), Some(15));
         assert_eq!(met(&p1(), &sound, &work, right, "E 8\n"), Some(16));
         assert_eq!(met(&p1(), &sound, &work, right, "E 7\n"), None);
     }
@@ -340,7 +342,7 @@ fn a_refused_begin_line_leaves_nothing_behind() {
     let layout = Layout::Half;
     let mut work = vec![0; layout.size()];
     let mut record = start_record(layout, &mut work).unwrap();
-    for (line, number) in [("B 1 A\n", None), ("B 1 NEW\n", Some(15)), ("B 2 bad\n", Some(13)), ("B 2 B\n", None)] {
+    for (line, number) in [("B 1 A\n", None), ("B 1 NEW\n", Some(15)), ("B 2 bad-\n", Some(13)), ("B 2 b\n", None)] {
         let answer = check_line(layout, &p1(), &record, &mut work, line.as_bytes());
         assert_eq!(answer.verdict.err(), number);
         record = answer.record;
@@ -518,5 +520,28 @@ fn every_relation_that_a_longer_log_shows_is_in_the_composition() {
                 assert_ne!(compose(first.into(), second.into()).unwrap() & third, 0);
             }
         }
+    }
+}
+
+/// A record is in capitals, and whoever hands in another meets 21: in the single-line call, in relating two runs and in
+/// both calls on slips.
+#[test]
+fn a_record_with_a_small_letter_is_refused_with_21() {
+    let log = "B 7 evening\nB 9 Test\nE 9\nE 7\n";
+    let sound = record_after(log);
+    assert_eq!(sound, record_after("B 7 EVENING\nB 9 TEST\nE 9\nE 7\n"));
+    for (label, at) in [(0, 0), (0, 6), (1, 0), (1, 3)] {
+        let mut small = sound.clone();
+        small.labels[label].bytes[at] += 32;
+        for layout in Layout::ALL {
+            let work = work_after(layout, log);
+            let counts = tally([4, 2, 2, 0, 1]);
+            assert_eq!(refusal(layout, &p1(), &sound, &work, counts, "B 5 test\n"), None);
+            assert_eq!(refusal(layout, &p1(), &small, &work, counts, "B 5 test\n"), Some(21), "{label} {at}");
+            assert_eq!(refusal(layout, &p1(), &small, &work, counts, "X\n"), Some(21), "{label} {at}");
+        }
+        assert_eq!((relation_between(&sound, 0, 1), relation_between(&small, 0, 1)), (Ok(16), Err(21)));
+        assert_eq!(slip_refusals(&p1(), &sound, 4, &[0, 1]), (None, None));
+        assert_eq!(slip_refusals(&p1(), &small, 4, &[0, 1]), (Some(21), Some(21)));
     }
 }

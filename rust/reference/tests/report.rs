@@ -109,6 +109,23 @@ fn a_refused_line_ends_the_lines() {
     }
 }
 
+/// Log and typed rule, each in capitals, in small letters and in both.
+#[test]
+fn labels_are_looked_up_in_either_case() {
+    let rule = |evening: &str, test: &str| format!("!exist A, B . A('{evening}') & B('{test}') & A i B");
+    for (evening, test) in [("EVENING", "TEST"), ("evening", "test"), ("Evening", "tesT")] {
+        for (of_7, of_9) in [("EVENING", "TEST"), ("evening", "test"), ("eVENING", "Test")] {
+            let log = format!("B 7 {of_7}\nB 9 {of_9}\nE 9\nE 7\n");
+            assert_eq!(output(&rule(evening, test), &log), "H H H F T 4 2 2 0 1", "{evening} {test} {log:?}");
+        }
+    }
+    let some_same = "exist A, B . A < B & same(A,B)";
+    assert_eq!(output(some_same, "B 1 test\nE 1\nB 2 TEST\nE 2\n"), "F F F H T 4 2 2 0 3");
+    assert_eq!(output(some_same, "B 1 test\nE 1\nB 2 TESTS\nE 2\n"), "F F F F T 4 2 2 0 4");
+    assert_eq!(output(P1, "b 1 X\n"), "R11 T 0 0 0 0 0");
+    assert_eq!(output(P1, "B 1 x\ne 1\n"), "H R11 T 1 1 0 1 0");
+}
+
 #[test]
 fn an_id_whose_run_has_finished_begins_a_new_run() {
     assert_eq!(output(P1, "B 1\nE 1\nB 1\nB 2\n"), "H H H H T 4 3 1 2 0");

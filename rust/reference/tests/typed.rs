@@ -498,22 +498,56 @@ fn labels_between_quotes() {
     assert_eq!(has(&"A".repeat(24)), 0);
     assert_eq!(has(&"A".repeat(25)), 5);
     assert_eq!(has(&"A".repeat(300)), 5);
-    for label in
-        ["test", "A B", " A", "A ", "A\nB", "\n", "A\tB", "A-B", "\"", "A(", "(", ")", "!", "exist B . B<B", "Ä"]
-    {
+    for label in [
+        "te-st", "A B", " A", "A ", "A\nB", "\n", "A\tB", "A-B", "\"", "A(", "(", ")", "!", "exist B . B<B", "Ä", "ä",
+    ] {
         assert_eq!(has(label), 5, "{label:?}");
     }
-    assert_eq!(has("AZ_09"), 0);
-    // A byte outside A to Z, 0 to 9 and underscore is a bad label; a quote ends it.
+    for label in ["AZ_09", "az_09", "test", "Test", "exist", "o", &"z".repeat(24)] {
+        assert_eq!(has(label), 0, "{label:?}");
+    }
+    assert_eq!(has(&"z".repeat(25)), 5);
+    // A byte that is no letter, digit or underscore is a bad label; a quote ends it.
     for byte in 0..=255 {
         let text = [b"exist A . A('".as_slice(), &[byte], b"')"].concat();
         let expected = match byte {
-            b'A'..=b'Z' | b'0'..=b'9' | b'_' => 0,
+            b'A'..=b'Z' | b'a'..=b'z' | b'0'..=b'9' | b'_' => 0,
             b'\'' => 25,
             _ => 5,
         };
         assert_eq!(refusal(&text), expected, "{byte}");
     }
+}
+
+/// "in a typed rule those are one label", and "all rules written out keep the capital form".
+#[test]
+fn labels_in_either_case_are_one_and_are_written_in_capitals() {
+    let expected = file(&["TEST"], &[[HAS_LABEL, 0, 0], [HAS_LABEL, 0, 0], [AND, 0, 1], [SOME, 0, 2]]);
+    for (one, other) in [("TEST", "TEST"), ("Test", "TEST"), ("TEST", "test"), ("tEsT", "TeSt")] {
+        let text = format!("exist A . A('{one}') & A('{other}')");
+        assert_eq!(rule_file(text.as_bytes()), Ok(expected.clone()), "{text}");
+    }
+    assert_eq!(labels("exist A . A('b') & A('Ab') & A('B') & A('a_1') & A('aB')"), ["B", "AB", "A_1"]);
+    // The text of a rule file has capitals, and the file that it is read from keeps its own.
+    let nodes = [[HAS_LABEL, 0, 1], [HAS_LABEL, 0, 0], [AND, 0, 1], [SOME, 0, 2]];
+    for listed in [["TEST", "A_Z"], ["test", "a_z"], ["Test", "A_z"]] {
+        assert_eq!(text(&listed, &nodes), "(exist A.(A('A_Z')&A('TEST')))");
+    }
+    assert_eq!(rule_text(&file(&["A", "a"], &nodes)), Err(5));
+    // P1 in any case.
+    for text in [P1.replace("EVENING", "evening"), P1.replace("TEST", "tesT"), P1.replace("EVENING", "EvEnInG")] {
+        assert_eq!(rule_file(text.as_bytes()), Ok(P1_FILE.to_vec()), "{text}");
+    }
+}
+
+/// The words, the relations' letters and the names of a typed rule stay as they are.
+#[test]
+fn nothing_but_a_label_is_read_in_either_case() {
+    for text in ["EXIST A.A<A", "Exist A.A<A", "exist a.a<a", "exist A.SAME(A,A)", "exist A.A O A", "exist A.A I A"] {
+        assert_eq!(refusal(text), 25, "{text}");
+    }
+    assert_eq!(refusal("exist Ab . AB('X')"), 9);
+    assert_eq!(nodes("exist Ab, AB . Ab < AB")[0], [BEFORE, 0, 1]);
 }
 
 /// "exist A ." and a chain of so many atoms: 2 nodes for each, 1 atom less and 1 "some" more.
@@ -553,8 +587,15 @@ fn sixteen_labels_are_taken_and_seventeen_are_not() {
     assert_eq!(labels(&with_labels(16, 16)).len(), 16);
     assert_eq!(refusal(with_labels(17, 0)), 4);
     // Labels with a wrong byte count too, and 4 comes before 5.
-    assert_eq!(refusal(with_labels(16, 0).replace("L3'", "l3'")), 5);
+    assert_eq!(refusal(with_labels(16, 0).replace("L3'", "l-'")), 5);
+    assert_eq!(refusal(with_labels(17, 0).replace("L3'", "l-'")), 4);
+    // Small letters make no other label, and no bad one.
+    assert_eq!(labels(&with_labels(16, 0).replace("L3'", "l3'")), labels(&with_labels(16, 0)));
     assert_eq!(refusal(with_labels(17, 0).replace("L3'", "l3'")), 4);
+    assert_eq!(labels(&with_labels(17, 0).replace("L16'", "l3'")), labels(&with_labels(16, 0)));
+    assert_eq!(refusal(with_labels(18, 0).replace("L16'", "l3'")), 4);
+    // Two that are bad and differ only in case are one too.
+    assert_eq!(refusal(with_labels(17, 0).replace("L16'", "x-'").replace("L3'", "X-'")), 5);
     assert_eq!(refusal(with_labels(17, 0).replace("L", "")), 4);
     assert_eq!(refusal(with_labels(17, 0).replace("L16'", "'")), 4);
 }
@@ -640,7 +681,7 @@ fn faults() -> Vec<(u8, String)> {
         (25, "()".into()),
         (4, format!("({})", chain(33))),
         (4, format!("({})", with_labels(17, 0))),
-        (5, "(exist A.A('test'))".into()),
+        (5, "(exist A.A('te-st'))".into()),
         (5, "(exist A.A(''))".into()),
         (9, "(exist A.A<B)".into()),
         (9, "A('TEST')".into()),
@@ -718,7 +759,9 @@ fn the_writer_meets_the_refusals_of_the_rule() {
         (b"RUX".to_vec(), 2),
         (b"RUL\x02\x00".to_vec(), 3),
         (b"RUL\x01\x00\x11".to_vec(), 4),
-        (b"RUL\x01\x00\x01\x01a".to_vec(), 5),
+        (b"RUL\x01\x00\x01\x01a".to_vec(), 1),
+        (b"RUL\x01\x00\x01\x01-".to_vec(), 5),
+        (b"RUL\x01\x00\x02\x01A\x01a".to_vec(), 5),
         (b"RUL\x01\x00\x00\x01\x09\x00\x00".to_vec(), 6),
         ([P1_FILE, &[0]].concat(), 7),
         (file(&[], &[[BEFORE, 0, 0], [AND, 0, 0], [SOME, 0, 1]]), 8),

@@ -1,16 +1,16 @@
--- The loop keeps: the bytes from `i` on decide whether the string, which has 1 to 24 bytes, is a label.
+-- The loop keeps: the capitals from `i` on decide whether the string, which has 1 to 24 bytes, is a label.
 use Prim.Native.Nat.{_-_, _≤_}
 use mathlib.Core.Path.{_≡_}
 use lib.ListN.{length, drop}
 use borrow.Author.Needs.{needs}
 use Rattle.lists.specs.Lists.{all?}
-use Rattle.labels.specs.Label.{letter?, labelForm?}
+use Rattle.labels.specs.Label.{letter?, capitals, labelForm?}
 use Rattle.labels.proofs.Form.{forms}
 use Rattle.labels.proofs.is_label.Statement.{statement}
 use Rattle.labels.proofs.is_label.Tie as tie
 
 abbrev Inv-loop : tie.InvT-loop
-Inv-loop s i₀ i = (i ≤ length s) × (all? letter? (drop i s) ≡ labelForm? s)
+Inv-loop s i₀ i = (i ≤ length s) × (all? letter? (drop i (capitals s)) ≡ labelForm? (capitals s))
 
 abbrev μ-loop : tie.MeasureT-loop
 μ-loop s i₀ i = length s - i
@@ -24,8 +24,11 @@ returns-2 c = search forms
 loop-holds : tie.Need-loop-holds Inv-loop μ-loop
 loop-holds c = (search needs, search forms)
 
-shared-slice-read-label-byte : tie.Need-shared-slice-read-label-byte Inv-loop μ-loop
-shared-slice-read-label-byte c = search needs
+shared-slice-read-capital-byte : tie.Need-shared-slice-read-capital-byte Inv-loop μ-loop
+shared-slice-read-capital-byte c = search needs
+
+capital-byte-requires : tie.Need-capital-byte-requires Inv-loop μ-loop
+capital-byte-requires c κs = search needs
 
 label-byte-requires : tie.Need-label-byte-requires Inv-loop μ-loop
 label-byte-requires c κs = search needs
@@ -54,7 +57,8 @@ is-label-spec =
     returns
     returns-2
     loop-holds
-    shared-slice-read-label-byte
+    shared-slice-read-capital-byte
+    capital-byte-requires
     label-byte-requires
     returns-3
     add-i

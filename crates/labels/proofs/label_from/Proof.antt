@@ -1,16 +1,17 @@
--- The array so far is the first bytes, filled up with zeros.
+-- The array so far is the capitals of the first bytes, filled up with zeros.
 use Prim.Native.Nat.{_-_, _≤_}
 use mathlib.Core.Path.{_≡_, refl}
 use native.Mathlib.Omega.{arith}
 use borrow.Author.Needs.{needs}
 use lib.ListN.{length, take}
 use Rattle.lists.specs.Lists.{pad}
+use Rattle.labels.specs.Label.{capitals}
 use Rattle.labels.proofs.Same.{copy-next, copy-end}
 use Rattle.labels.proofs.label_from.Statement.{statement}
 use Rattle.labels.proofs.label_from.Tie as tie
 
 abbrev Inv-loop : tie.InvT-loop
-Inv-loop bytes text₀ n i₀ text i = (i ≤ length bytes) × (text ≡ pad 0 24 (take i bytes))
+Inv-loop bytes text₀ n i₀ text i = (i ≤ length bytes) × (text ≡ pad 0 24 (take i (capitals bytes)))
 
 abbrev μ-loop : tie.MeasureT-loop
 μ-loop bytes text₀ n i₀ text i = length bytes - i
@@ -19,8 +20,11 @@ loop-holds : tie.Need-loop-holds Inv-loop μ-loop
 unfolding pad
 loop-holds c = (omega arith, refl)
 
-shared-slice-read-text : tie.Need-shared-slice-read-text Inv-loop μ-loop
-shared-slice-read-text c = search needs
+shared-slice-read-b : tie.Need-shared-slice-read-b Inv-loop μ-loop
+shared-slice-read-b c = search needs
+
+capital-byte-requires : tie.Need-capital-byte-requires Inv-loop μ-loop
+capital-byte-requires c κs = search needs
 
 array-write-text : tie.Need-array-write-text Inv-loop μ-loop
 array-write-text c = search needs
@@ -34,8 +38,8 @@ loop-less c = search needs
 loop-again : tie.Need-loop-again Inv-loop μ-loop
 loop-again c = (search needs, search copy-next)
 
-cast-t11 : tie.Need-cast-t11 Inv-loop μ-loop
-cast-t11 c = search needs
+cast-t13 : tie.Need-cast-t13 Inv-loop μ-loop
+cast-t13 c = search needs
 
 returns : tie.Need-returns Inv-loop μ-loop
 returns c = search copy-end
@@ -47,10 +51,11 @@ label-from-spec =
     Inv-loop
     μ-loop
     loop-holds
-    shared-slice-read-text
+    shared-slice-read-b
+    capital-byte-requires
     array-write-text
     add-i
     loop-less
     loop-again
-    cast-t11
+    cast-t13
     returns)

@@ -1,4 +1,4 @@
--- The bytes passed are the same in both, and none is a quote.
+-- The capitals passed are the same in both, and none is a quote.
 use Prim.Native.Nat.{_-_}
 use lib.ListN.{length}
 use borrow.Author.Needs.{needs}
@@ -7,7 +7,7 @@ use Rattle.text_labels.proofs.same_from.Statement.{statement}
 use Rattle.text_labels.proofs.same_from.Tie as tie
 use Rattle.text_labels.proofs.same_from.Reads as reads
 use Rattle.text_labels.proofs.same_from.Lts as lts
-use Rattle.text_labels.proofs.byte_or_quote.Reads as byte-or-quote-reads
+use Rattle.text_labels.proofs.capital_or_quote.Reads as capital-or-quote-reads
 
 abbrev Inv-loop : tie.InvT-loop
 Inv-loop text a b i₀ i = SameFrom text a b i
@@ -21,17 +21,17 @@ loop-holds c = search same-first
 sub-loop : tie.Need-sub-loop Inv-loop μ-loop
 sub-loop c = search needs
 
-add-byte-or-quote : tie.Need-add-byte-or-quote Inv-loop μ-loop
-add-byte-or-quote c = search needs
+add-capital-or-quote : tie.Need-add-capital-or-quote Inv-loop μ-loop
+add-capital-or-quote c = search needs
 
-byte-or-quote-requires : tie.Need-byte-or-quote-requires Inv-loop μ-loop
-byte-or-quote-requires c κs = search needs
+capital-or-quote-requires : tie.Need-capital-or-quote-requires Inv-loop μ-loop
+capital-or-quote-requires c κs = search needs
 
-add-byte-or-quote-2 : tie.Need-add-byte-or-quote-2 Inv-loop μ-loop
-add-byte-or-quote-2 c = search needs
+add-capital-or-quote-2 : tie.Need-add-capital-or-quote-2 Inv-loop μ-loop
+add-capital-or-quote-2 c = search needs
 
-byte-or-quote-requires-2 : tie.Need-byte-or-quote-requires-2 Inv-loop μ-loop
-byte-or-quote-requires-2 c κs = search needs
+capital-or-quote-requires-2 : tie.Need-capital-or-quote-requires-2 Inv-loop μ-loop
+capital-or-quote-requires-2 c κs = search needs
 
 returns : tie.Need-returns Inv-loop μ-loop
 returns c = search same-differ
@@ -48,13 +48,13 @@ loop-less c = search needs
 loop-again : tie.Need-loop-again Inv-loop μ-loop
 loop-again c =
     let b = c .before .before .before .before in
-    same-next _ _ _ _ (b .before .loop .inv) _ _ (c .before .before .before .byte-or-quote .ensures) (c .before .before .byte-or-quote2 .ensures) (c .before .if1 .left) (c .if2 .left) (b .loop-test .taken)
+    same-next _ _ _ _ (b .before .loop .inv) _ _ (c .before .before .before .capital-or-quote .ensures) (c .before .before .capital-or-quote2 .ensures) (c .before .if1 .left) (c .if2 .left) (b .loop-test .taken)
 
-add-byte-or-quote-3 : tie.Need-add-byte-or-quote-3 Inv-loop μ-loop
-add-byte-or-quote-3 c = search needs
+add-capital-or-quote-3 : tie.Need-add-capital-or-quote-3 Inv-loop μ-loop
+add-capital-or-quote-3 c = search needs
 
-byte-or-quote-requires-3 : tie.Need-byte-or-quote-requires-3 Inv-loop μ-loop
-byte-or-quote-requires-3 c κs = search needs
+capital-or-quote-requires-3 : tie.Need-capital-or-quote-requires-3 Inv-loop μ-loop
+capital-or-quote-requires-3 c κs = search needs
 
 returns-3 : tie.Need-returns-3 Inv-loop μ-loop
 returns-3 c = search same-out
@@ -67,15 +67,15 @@ same-from-spec =
     μ-loop
     loop-holds
     sub-loop
-    add-byte-or-quote
-    byte-or-quote-requires
-    add-byte-or-quote-2
-    byte-or-quote-requires-2
+    add-capital-or-quote
+    capital-or-quote-requires
+    add-capital-or-quote-2
+    capital-or-quote-requires-2
     returns
     returns-2
     add-i
     loop-less
     loop-again
-    add-byte-or-quote-3
-    byte-or-quote-requires-3
+    add-capital-or-quote-3
+    capital-or-quote-requires-3
     returns-3)

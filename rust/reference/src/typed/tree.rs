@@ -2,6 +2,7 @@
 //! numbered.
 
 use super::signs::Sign;
+use crate::label::place_in;
 use crate::rule::{Node, AND, HAS_LABEL, NOT, SAME, SOME};
 
 /// A node of the tree; children by their places in the tree's list.
@@ -120,7 +121,7 @@ impl<'a> Tree<'a> {
                 Node { kind: SOME, a, b }
             }
             Part::Has(name, label) => {
-                let b = labels.iter().position(|listed| *listed == label).expect("a listed label");
+                let b = place_in(labels, label).expect("a listed label");
                 Node { kind: HAS_LABEL, a: level_of(name, bound)?, b: b as u8 }
             }
             Part::Pair(kind, a, b) => Node { kind, a: level_of(a, bound)?, b: level_of(b, bound)? },

@@ -3,6 +3,7 @@
 //! relation's sign, none elsewhere".
 
 use crate::formula::{Formula, Variable};
+use crate::label::capitals;
 
 pub fn text_of(rule: &Formula) -> Vec<u8> {
     let mut text = Vec::new();
@@ -41,7 +42,7 @@ fn write(formula: &Formula, bound: &mut Vec<Variable>, text: &mut Vec<u8>) {
         }
         Formula::HasLabel(variable, label) => {
             text.extend(format!("{}('", name(variable)).bytes());
-            text.extend(label);
+            text.extend(capitals(label));
             text.extend(b"')");
         }
         Formula::Before(a, b) => text.extend(relation(a, '<', b).bytes()),

@@ -1,29 +1,18 @@
--- The label stands in the file; it goes between the quotes.
+-- The label's capitals are the first bytes of the label that the file gives; they go between the quotes.
+use mathlib.Core.Path.{_≡_, sym}
 use native.Mathlib.Omega.{arith}
-use Rattle.rules.proofs.Labels.{label-room}
-use Rattle.rule_text.proofs.Spelling.{has-written, has-inside, has-end}
+use lib.ListN.{length}
+use lib.Seq.{length-take-le}
 use borrow.Author.Needs.{needs}
+use Rattle.rule_text.proofs.Spelling.{has-written, has-inside, has-end}
 use Rattle.rule_text.proofs.leaves.write_has.Statement.{statement}
 use Rattle.rule_text.proofs.leaves.write_has.Tie as tie
-use Rattle.rule_text.proofs.leaves.write_has.Reads as reads
-use Rattle.rule_text.proofs.leaves.write_has.Lts as lts
-use Rattle.output.proofs.append.Reads as append-reads
-use Rattle.rules.proofs.file_labels.label_place.Reads as label-place-reads
 
-label-place-requires : tie.Need-label-place-requires
-label-place-requires c κs = λ i h. c .before .before .pre .0 i (omega arith)
+label-of-requires : tie.Need-label-of-requires
+label-of-requires c κs = search needs
 
-add-from : tie.Need-add-from
-add-from c = let r = label-room _ _ _ _ (c .before .before .before .pre .0) (c .label-place .ensures) (omega arith) in omega arith
-
-shared-slice-read-end : tie.Need-shared-slice-read-end
-shared-slice-read-end c = let r = label-room _ _ _ _ (c .before .before .before .before .pre .0) (c .before .label-place .ensures) (omega arith) in omega arith
-
-cast-end : tie.Need-cast-end
-cast-end c = omega (arith, c .shared-slice-known2 .given (c .before .label-place .result))
-
-add-end : tie.Need-add-end
-add-end c = let r = label-room _ _ _ _ (c .before .before .before .before .pre .0) (c .before .label-place .ensures) (omega arith) in omega arith
+cast-size : tie.Need-cast-size
+cast-size c = search needs
 
 slice-aggregate-append : tie.Need-slice-aggregate-append
 slice-aggregate-append c = search needs
@@ -31,20 +20,23 @@ slice-aggregate-append c = search needs
 append-requires : tie.Need-append-requires
 append-requires c κs = search needs
 
-sub-append : tie.Need-sub-append
-sub-append c = search needs
+array-share-prefix-capitals : tie.Need-array-share-prefix-capitals
+array-share-prefix-capitals c =
+    let l = c .before .before .before .before .before .before .before .before .label-of in
+    let e : length (l .result .bytes) ≡ 24 = search needs in
+    omega (arith, l .ensures .1)
 
-part-append-start : tie.Need-part-append-start
-part-append-start c = search needs
-
-part-append-end : tie.Need-part-append-end
-part-append-end c = let r = label-room _ _ _ _ (c .before .before .before .before .before .before .before .before .before .before .pre .0) (c .before .before .before .before .before .before .before .label-place .ensures) (omega arith) in omega arith
+slice-aggregate-append-2 : tie.Need-slice-aggregate-append-2
+slice-aggregate-append-2 c =
+    let l = c .before .before .before .before .before .before .before .before .before .label-of in
+    let e : length (l .result .bytes) ≡ 24 = search needs in
+    sym (length-take-le (l .result .length) (l .result .bytes) (omega (arith, l .ensures .1)))
 
 append-requires-2 : tie.Need-append-requires-2
 append-requires-2 c κs = search has-inside
 
-slice-aggregate-append-2 : tie.Need-slice-aggregate-append-2
-slice-aggregate-append-2 c = search needs
+slice-aggregate-append-3 : tie.Need-slice-aggregate-append-3
+slice-aggregate-append-3 c = search needs
 
 append-requires-3 : tie.Need-append-requires-3
 append-requires-3 c κs = search has-end
@@ -59,18 +51,14 @@ pub write-has-spec : {M : Type 1} → statement M
 write-has-spec =
     tie.close
     (tie.spec
-    label-place-requires
-    add-from
-    shared-slice-read-end
-    cast-end
-    add-end
+    label-of-requires
+    cast-size
     slice-aggregate-append
     append-requires
-    sub-append
-    part-append-start
-    part-append-end
-    append-requires-2
+    array-share-prefix-capitals
     slice-aggregate-append-2
+    append-requires-2
+    slice-aggregate-append-3
     append-requires-3
     same-length
     returns)

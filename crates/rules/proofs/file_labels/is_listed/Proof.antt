@@ -4,13 +4,13 @@ use mathlib.Core.Path.{_≡_, refl}
 use mathlib.Core.Bool.{false}
 use borrow.Author.Needs.{needs}
 use native.Mathlib.Omega.{arith}
-use Rattle.rules.specs.Labels.{labelStart, listed, bytesFrom}
+use Rattle.rules.specs.Labels.{labelStart, listed, labelFrom}
 use Rattle.rules.proofs.Labels.{place-first, place-next, place-inside, listed-next, listed-stop, listed-end}
 use Rattle.rules.proofs.file_labels.is_listed.Statement.{statement}
 use Rattle.rules.proofs.file_labels.is_listed.Tie as tie
 
 abbrev Inv-loop : tie.InvT-loop
-Inv-loop file n at from end p₀ m₀ p m = (m ≤ n) × (p ≡ labelStart file m) × (listed file m (bytesFrom file at) ≡ false)
+Inv-loop file n at from end p₀ m₀ p m = (m ≤ n) × (p ≡ labelStart file m) × (listed file m (labelFrom file at) ≡ false)
 
 abbrev μ-loop : tie.MeasureT-loop
 μ-loop file n at from end p₀ m₀ p m = n - m
@@ -55,30 +55,30 @@ add-e c =
     let h = place-inside _ _ _ _ _ (l .loop .inv .1) (s .pre .0) (omega arith) in
     omega arith
 
-sub-same-bytes : tie.Need-sub-same-bytes Inv-loop μ-loop
-sub-same-bytes c = search needs
+sub-same-label : tie.Need-sub-same-label Inv-loop μ-loop
+sub-same-label c = search needs
 
-part-same-bytes-start : tie.Need-part-same-bytes-start Inv-loop μ-loop
-part-same-bytes-start c = search needs
+part-same-label-start : tie.Need-part-same-label-start Inv-loop μ-loop
+part-same-label-start c = search needs
 
-part-same-bytes-end : tie.Need-part-same-bytes-end Inv-loop μ-loop
-part-same-bytes-end c =
+part-same-label-end : tie.Need-part-same-label-end Inv-loop μ-loop
+part-same-label-end c =
     let l = c .before .before in
     let s = l .before .before .before in
     let h = place-inside _ _ _ _ _ (l .loop .inv .1) (s .pre .0) (omega arith) in
     omega arith
 
-sub-same-bytes-2 : tie.Need-sub-same-bytes-2 Inv-loop μ-loop
-sub-same-bytes-2 c = search needs
+sub-same-label-2 : tie.Need-sub-same-label-2 Inv-loop μ-loop
+sub-same-label-2 c = search needs
 
-part-same-bytes-start-2 : tie.Need-part-same-bytes-start-2 Inv-loop μ-loop
-part-same-bytes-start-2 c = search needs
+part-same-label-start-2 : tie.Need-part-same-label-start-2 Inv-loop μ-loop
+part-same-label-start-2 c = search needs
 
-part-same-bytes-end-2 : tie.Need-part-same-bytes-end-2 Inv-loop μ-loop
-part-same-bytes-end-2 c = search needs
+part-same-label-end-2 : tie.Need-part-same-label-end-2 Inv-loop μ-loop
+part-same-label-end-2 c = search needs
 
-same-bytes-requires : tie.Need-same-bytes-requires Inv-loop μ-loop
-same-bytes-requires c κs = search needs
+same-label-requires : tie.Need-same-label-requires Inv-loop μ-loop
+same-label-requires c κs = search needs
 
 returns : tie.Need-returns Inv-loop μ-loop
 returns c = search listed-stop
@@ -110,13 +110,13 @@ is-listed-spec =
     shared-slice-read-e
     cast-e
     add-e
-    sub-same-bytes
-    part-same-bytes-start
-    part-same-bytes-end
-    sub-same-bytes-2
-    part-same-bytes-start-2
-    part-same-bytes-end-2
-    same-bytes-requires
+    sub-same-label
+    part-same-label-start
+    part-same-label-end
+    sub-same-label-2
+    part-same-label-start-2
+    part-same-label-end-2
+    same-label-requires
     returns
     add-m
     loop-less

@@ -1,21 +1,28 @@
--- The length byte, and behind it the piece.
-use Rattle.typed_file.proofs.Writing.{wrote-label}
+-- The length byte, and behind it the capitals: the first bytes of the label that is made of the piece.
+use Prim.Native.Nat.{_≤_}
+use mathlib.Core.Path.{_≡_, sym}
+use native.Mathlib.Omega.{arith}
+use lib.ListN.{length}
+use lib.Seq.{length-take-le}
 use borrow.Author.Needs.{needs}
+use Rattle.typed_file.proofs.Writing.{label-few, label-fits, wrote-label}
 use Rattle.typed_file.proofs.file.write_label.Statement.{statement}
 use Rattle.typed_file.proofs.file.write_label.Tie as tie
-use Rattle.typed_file.proofs.file.write_label.Reads as reads
-use Rattle.typed_file.proofs.file.write_label.Lts as lts
-use Rattle.output.proofs.append.Reads as append-reads
-use Rattle.text_labels.proofs.cut_label.Reads as cut-label-reads
 
 cut-label-requires : tie.Need-cut-label-requires
 cut-label-requires c κs = search needs
 
-sub-t10 : tie.Need-sub-t10
-sub-t10 c = search needs
+sub-label-from : tie.Need-sub-label-from
+sub-label-from c = search needs
 
-cast-t11 : tie.Need-cast-t11
-cast-t11 c = search needs
+part-label-from-start : tie.Need-part-label-from-start
+part-label-from-start c = search needs
+
+part-label-from-end : tie.Need-part-label-from-end
+part-label-from-end c = search needs
+
+label-from-requires : tie.Need-label-from-requires
+label-from-requires c κs = search needs
 
 slice-aggregate-append : tie.Need-slice-aggregate-append
 slice-aggregate-append c = search needs
@@ -23,17 +30,25 @@ slice-aggregate-append c = search needs
 append-requires : tie.Need-append-requires
 append-requires c κs = search needs
 
-sub-append : tie.Need-sub-append
-sub-append c = search needs
+cast-size : tie.Need-cast-size
+cast-size c = search needs
 
-part-append-start : tie.Need-part-append-start
-part-append-start c = search needs
+array-share-prefix-capitals : tie.Need-array-share-prefix-capitals
+array-share-prefix-capitals c =
+    let l = c .before .before .before .before .before .before .before .before .label-from .result in
+    let e : length (l .bytes) ≡ 24 = search needs in
+    let h : l .length ≤ 24 = search label-few in
+    omega arith
 
-part-append-end : tie.Need-part-append-end
-part-append-end c = search needs
+slice-aggregate-append-2 : tie.Need-slice-aggregate-append-2
+slice-aggregate-append-2 c =
+    let l = c .before .before .before .before .before .before .before .before .before .label-from .result in
+    let e : length (l .bytes) ≡ 24 = search needs in
+    let h : l .length ≤ 24 = search label-few in
+    sym (length-take-le (l .length) (l .bytes) (omega arith))
 
 append-requires-2 : tie.Need-append-requires-2
-append-requires-2 c κs = search needs
+append-requires-2 c κs = search label-fits
 
 same-length : tie.Need-same-length
 same-length c = search needs
@@ -46,13 +61,15 @@ write-label-spec =
     tie.close
     (tie.spec
     cut-label-requires
-    sub-t10
-    cast-t11
+    sub-label-from
+    part-label-from-start
+    part-label-from-end
+    label-from-requires
     slice-aggregate-append
     append-requires
-    sub-append
-    part-append-start
-    part-append-end
+    cast-size
+    array-share-prefix-capitals
+    slice-aggregate-append-2
     append-requires-2
     same-length
     returns)

@@ -14,7 +14,8 @@ use Rattle.grammar.specs.Forms.{Begins, Ends}
 use Rattle.logic.specs.Satisfies.{HasLabel}
 use Rattle.accepted_logs.specs.MetAfter.{HasId, MetAfter}
 
--- "Each accepted begin line makes a run": the run of line l, with the id i and the label s. "label 0 means none"
+-- "Each accepted begin line makes a run": the run of line l, with the id i and a label whose
+-- capitals are s. "label 0 means none"
 pub record BegunAt (t : Trace) (l i : ℕ) (s : List ℕ) : Type 0 where
   pub run : ℕ
   pub named : HasId t i run

@@ -1,11 +1,9 @@
 -- Labels in another case change no answer: lines that say the same, and rule files with one formula, are judged alike.
 use Prim.Native.Nat.{ℕ, zero, suc, _+_, _*_}
 use mathlib.Core.Path.{_≡_, refl, ap, ap₂, sym, subst, _∙_}
-use mathlib.Core.Logic.{_↔_}
 use mathlib.Core.Bool.{Bool, true, false, cond, _||_}
 use mathlib.Core.List.{List, [], _∷_, _++_, map}
 use mathlib.Core.Option.{Option, none, some}
-use native.Mathlib.Omega.{arith}
 use lib.Dec.{eqb, ltb}
 use lib.ListN.{length, getD, set, drop, replicate}
 use Rattle.lists.specs.Lists.{none?}
@@ -42,9 +40,8 @@ use Rattle.report.specs.declared.Reported.the-variants as Reported
 use Rattle.report.specs.Report.{Result, reportSize, reportOf}
 use Rattle.report.specs.Calls.{LineCall, TalliedCall, LogCall, logPart, ReportCall, reportPart}
 use Rattle.report.specs.Text.{lineText, textFrom, reportText}
-use Rattle.reading.specs.declared.Ending.the-variants as Ending
 use Rattle.reading.specs.declared.LogRead.{LogRead}
-use Rattle.reading.specs.Reading.{byAnswer, ended}
+use Rattle.reading.specs.Reading.{byAnswer}
 use Rattle.single.specs.declared.Checked.{Checked}
 use Rattle.single.specs.Handed.{HandedBy, Reached}
 use Rattle.single.specs.Line.{judged, refusing, lineAfter, stateOf, withRule, lineOf}
@@ -52,7 +49,7 @@ use Rattle.whole_log.specs.declared.Mode.{Mode}
 use Rattle.whole_log.specs.declared.Mode.the-variants.{FirstFailure, Full}
 use Rattle.whole_log.specs.Log.{notRead, linesFrom, logOf}
 use Rattle.whole_log.specs.Part.{behind, toFailure, linesRead, readPart}
-use Rattle.whole_log.proofs.Part.{lines-of-part, part-unruled}
+use Rattle.whole_log.proofs.Part.{lines-of-part}
 use Rattle.atoms.specs.Tree.{Tree, size}
 use Rattle.atoms.specs.Emit.{emit}
 use Rattle.typed.specs.Grammar.{readText}

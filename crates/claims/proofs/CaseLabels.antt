@@ -1,28 +1,29 @@
 -- Labels are one label exactly if their capitals are the same: what a line begins has the capitals of the label that is written in it,
 -- no two labels of a log have the same capitals, and a record and a rule hold capitals only.
-use Prim.Native.Nat.{ℕ, zero, suc, _+_, _-_, _≤_, _<_}
+use Prim.Native.Nat.{ℕ, zero, suc, _-_, _%_, _≤_, _<_}
 use mathlib.Core.Path.{_≡_, refl, ap, sym, subst, _∙_}
 use mathlib.Core.Logic.{_≢_, _↔_, inl}
 use mathlib.Core.Bool.{true}
-use mathlib.Core.List.{List, [], _∷_, _++_}
+use mathlib.Core.List.{List, [], _∷_}
 use native.Mathlib.Omega.{arith}
-use lib.ListN.{length, getD, List·getD-eq-default, List·getD-append}
+use lib.ListN.{length, getD, List·getD-eq-default}
 use lib.Seq.{getD-at}
-use Rattle.lists.proofs.Cases.{either-eq, either-lt, never}
+use Rattle.lists.proofs.Cases.{either-lt, never}
 use Rattle.lists.proofs.Lists.{getD-pad, zeros}
 use Rattle.labels.specs.declared.Label.{Label}
 use Rattle.labels.specs.Label.{capital, capitals, labelForm?, labelOf, text, noLabel, absent}
-use Rattle.labels.specs.Table.{labelAt, withLabel, Distinct}
+use Rattle.labels.specs.Fnv.{fnvOf}
+use Rattle.labels.specs.Table.{labelAt, withLabel, Distinct, labelPlaces, firstPlace}
 use Rattle.labels.proofs.Capitals.{capital-is}
 use Rattle.labels.proofs.Form.{label?, form-some}
 use Rattle.labels.proofs.Same.{text-of}
 use Rattle.labels.proofs.Table.{label-kept}
-use Rattle.lines.specs.Event.{Event, begins}
+use Rattle.lines.specs.Event.{Event, begins, ends, faulty}
 use Rattle.lines.specs.Line.{eventOf}
 use Rattle.lines.specs.Log.{linesOf}
 use Rattle.lines.proofs.Event.{Fine, event-fine}
 use Rattle.trace.specs.declared.Record.{Record}
-use Rattle.trace.specs.Trace.{Trace, next, begin, end, step, runAt, Accepted}
+use Rattle.trace.specs.Trace.{Trace, Answer, next, refused, noTrace, begin, end, apply, applyTo, step, steps, read, runAt, beginLine, Accepted}
 use Rattle.trace.specs.Record.{recordOf, Valid}
 use Rattle.trace.proofs.Accepted.{one-line, accepted-orderly}
 use Rattle.trace.proofs.Bounds.{accepted-sound}
@@ -30,12 +31,13 @@ use Rattle.trace.proofs.Induction.{accepted-keeps}
 use Rattle.trace.proofs.Taken.{line-taken}
 use Rattle.pairs.specs.Layout.{workSize}
 use Rattle.rules.specs.declared.Node.{Node}
-use Rattle.rules.specs.Formula.{before, overlaps, includes, same, Formula, both, neg, exists, has, pair}
+use Rattle.rules.specs.Formula.{Formula, both, neg, exists, has, pair}
 use Rattle.grammar.specs.Written.{LabelByte, capital as is-capital, digit, underscore, IsLabel}
 use Rattle.grammar.specs.Naming.{nodeOf}
 use Rattle.grammar.specs.Layout.{InRange, and, not, some, has-label, between, RightLabels, RightNodes}
 use Rattle.grammar.specs.Stands.{Stands, RuleFile}
 use Rattle.grammar.proofs.Written.{form-is-label}
+use Rattle.grammar.proofs.BytesMet.{begins-says, ends-says}
 use Rattle.grammar.proofs.Paths.{kind-within}
 use Rattle.logic.specs.Satisfies.{HasLabel, SameLabel}
 use Rattle.accepted_logs.specs.Spoken.{BegunAt}
@@ -139,6 +141,40 @@ small-refused k s long ruled =
     d .changes-nothing (d .just-where .1 (unknown long ruled none refl)) .0
 
 -- ── the label that is written in a run's line ──
+-- of an accepted log no line is refused by its own bytes
+stays-refused : (ls : List (List ℕ)) (c : ℕ) (u : Trace) → steps (refused c) ls ≡ next u → ⊥
+unfolding step applyTo
+stays-refused [] c u e = never (cc)
+stays-refused (l ∷ ls) c u e = stays-refused ls c u e
+
+not-faulty : (ls : List (List ℕ)) (a : Answer) (u : Trace) → steps a ls ≡ next u → (n : ℕ) → n < length ls → (c : ℕ) → eventOf (getD ls n []) ≡ faulty c → ⊥
+unfolding step applyTo apply
+not-faulty [] a u e n h c f = omega arith
+not-faulty (l ∷ ls) (next t) u e zero h c f = stays-refused ls c u (ap (λ (v : Event). steps (applyTo (next t) v) ls) (sym f) ∙ e)
+not-faulty (l ∷ ls) (refused d) u e zero h c f = stays-refused ls d u e
+not-faulty (l ∷ ls) a u e (suc n) h c f = not-faulty ls (step a l) u e n (omega arith) c f
+
+each-written : (log : List ℕ) (t : Trace) → Accepted log t → (k : ℕ) → k < length (t .runs) → (s : List ℕ) × WrittenAt log t k s
+unfolding read
+each-written log t a k h =
+    let o = accepted-orderly log t a in
+    let said = accepted-spoken log t a in
+    let low = o .within k h in
+    let line : ℕ = beginLine (runAt t k) - 1 in
+    let is : beginLine (runAt t k) ≡ suc line = omega (arith, low .0) in
+    let within : line < length (linesOf log) = omega (arith, said .count, low .0, low .1) in
+    by-event k h line is within (eventOf (getD (linesOf log) line [])) refl
+  where
+    by-event : (k : ℕ) → k < length (t .runs) → (line : ℕ) → beginLine (runAt t k) ≡ suc line → line < length (linesOf log) → (e : Event) → eventOf (getD (linesOf log) line []) ≡ e
+        → (s : List ℕ) × WrittenAt log t k s
+    by-event k h line is within (begins i s) e =
+        let b = begins-says (getD (linesOf log) line []) i s .0 e in
+        (b .written, record { begun = h; line = line; within = within; begins-there = is; id = i; label = s; says = b; written = refl })
+    by-event k h line is within (ends i) e =
+        let d = accepted-spoken log t a .ends line i within (ends-says (getD (linesOf log) line []) i .0 e) in
+        absurd (accepted-orderly log t a .apart k (d .run) h (is ∙ sym (d .line)))
+    by-event k h line is within (faulty c) e = absurd (not-faulty (linesOf log) (next noTrace) t (a .leaves) line within c e)
+
 no-bytes : (s : List ℕ) → capitals s ≡ [] → s ≡ []
 no-bytes [] e = refl
 no-bytes (b ∷ s) e = absurd (never (cc))
@@ -166,6 +202,10 @@ module _ (log : List ℕ) (t : Trace) (a : Accepted log t) where
     some-label n =
         subst (λ (j : ℕ). HasLabel t j (capitals s)) its
         (subst (HasLabel t (here .run)) (sym said) (here .labelled (λ e. n (no-bytes s (said ∙ e)))))
+
+    hash-says : s ≢ [] → firstPlace (labelAt (t .labels) (runAt t k .label .0)) ≡ fnvOf (capitals s) % labelPlaces
+    unfolding firstPlace
+    hash-says n = ap (λ (l : List ℕ). fnvOf l % labelPlaces) (some-label n .bytes)
 
     has-says : (l : List ℕ) → HasLabel t k l ↔ ((s ≢ []) × (capitals s ≡ l))
     has-says l = (
@@ -232,16 +272,18 @@ module _ (ls : List (List ℕ)) (xs : List Node) (labels : RightLabels ls) (node
       subst IsLabel b (labels .each (nodeOf xs n .b) (named-low n (nodes n h) e))
   stands-labels n (pair p v w) s = tt
 
-rule-names : (file : List ℕ) (f : Formula) → RuleFile file f → EachLabel IsLabel f
+pub rule-names : (file : List ℕ) (f : Formula) → RuleFile file f → EachLabel IsLabel f
 rule-names file f r = stands-labels (r .labels) (r .nodes) (r .whole .labels) (r .whole .nodes) (length (r .nodes) - 1) f (r .root)
 
 pub one-label : OneLabel
 one-label =
     record {
+      each = each-written;
       byte = capital-is;
       has-label = has-says;
       same-label = same-says;
       number = number-says;
+      hash = hash-says;
       record-labels = label-is;
       no-small-letter = no-small;
       refused = small-refused;

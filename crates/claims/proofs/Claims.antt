@@ -16,6 +16,8 @@ use Rattle.claims.proofs.Slips.{the-slips}
 use Rattle.claims.proofs.Layouts.{the-layouts}
 use Rattle.claims.proofs.Modes.{the-modes}
 use Rattle.claims.proofs.CaseLabels.{one-label}
+use Rattle.claims.proofs.CaseFile.{file-capitals}
+use Rattle.claims.proofs.CaseText.{text-capitals}
 use Rattle.claims.proofs.CaseCalls.{no-difference}
 use Rattle.claims.proofs.Worked as Worked
 
@@ -32,7 +34,7 @@ demand-3 a b h k v c =
     }
 
 pub the-demands : Demands
-the-demands = record { first = demand-1; second = demand-2; third = demand-3; typed = typed-rules; slips = the-slips; layouts = the-layouts; modes = the-modes; letters = record { one = one-label; same = no-difference } }
+the-demands = record { first = demand-1; second = demand-2; third = demand-3; typed = typed-rules; slips = the-slips; layouts = the-layouts; modes = the-modes; letters = record { one = one-label; out = record { file = file-capitals; text = text-capitals }; same = no-difference } }
 
 pub the-cases : Cases
 the-cases = Worked.the-cases

@@ -5,11 +5,11 @@ use mathlib.Core.List.{List}
 use lib.ListN.{length}
 use Rattle.lists.specs.Lists.{bytes, pad}
 use Rattle.labels.specs.Label.{digit?, letter?, capital, labelForm?, labelOf, equalLabel?}
-use Rattle.labels.specs.Table.{indexOf, numberOf, withLabel}
+use Rattle.labels.specs.Fnv.{fnvFrom}
+use Rattle.labels.specs.Table.{indexOf, numberOf, withLabel, firstPlace}
 use Rattle.lines.specs.Line.{eventOf}
-use Rattle.lines.specs.Log.{linesOf}
 use Rattle.lines.specs.Render.{digits}
-use Rattle.trace.specs.Trace.{noTrace, read, step, applyTo, apply, beginRun, endRun, begin, end, running?, close}
+use Rattle.trace.specs.Trace.{read, step, applyTo, apply, beginRun, endRun, begin, end, running?, close}
 use Rattle.trace.specs.Orderly.{finishedRuns}
 use Rattle.rules.specs.declared.RuleRead.the-variants as RuleRead
 use Rattle.rules.specs.Parts.{part, andThen, nothingFollows}
@@ -38,9 +38,10 @@ use Rattle.typed_grammar.specs.Text.{textIn, ruleText}
 use Rattle.typed_checks.specs.Said.{judged}
 use Rattle.typed_file.specs.File.{nodesBytes, fileFrom, fileOf}
 use Rattle.typed_file.specs.Answer.{typedAnswer, bytesOf}
+use Rattle.rule_text.specs.Text as Text
 use Rattle.rule_text.specs.Text.{textAnswer, answerOf}
 use Rattle.output.specs.declared.Written.the-variants.{Length, Refused}
-use Rattle.claims.specs.LetterCases.{labelledRun, leavesLabel, p1Small, twoLabels, LetterCases}
+use Rattle.claims.specs.LetterCases.{p1Small, twoLabels, LetterCases}
 
 -- ── rule files ──
 small-taken : ruleOf p1Small ≡ RuleRead.Rule p1Rule
@@ -54,6 +55,14 @@ small-formula = refl
 small-written : textAnswer p1Small 4096 ≡ Length 53
 unfolding textAnswer textIn
 small-written = ap (answerOf p1Small) small-taken ∙ ap (λ (f : Formula). Length (length (ruleText f))) small-formula
+
+small-text : Text.bytesOf p1Small (ruleOf p1Small) ≡ bytes "!(exist A.(exist B.((A('EVENING')&B('TEST'))&A i B)))"
+unfolding textIn
+small-text = ap (Text.bytesOf p1Small) small-taken ∙ ap ruleText small-formula
+
+hashes : (firstPlace (labelOf (bytes "EVENING")) ≡ 15) × (firstPlace (labelOf (bytes "evening")) ≡ 47)
+unfolding firstPlace labelOf pad fnvFrom
+hashes = (refl, refl)
 
 lists : (ruleOf (twoLabels 65 97) ≡ RuleRead.Refused 5) × (ruleOf (twoLabels 122 90) ≡ RuleRead.Refused 5) × (ruleOf (twoLabels 65 98) ≡ RuleRead.Rule (record { labels = 2; nodes = 11; count = 2 }))
 unfolding ruleOf part andThen nothingFollows labelStart listed readLabel readLabels readNodes tree formulaAt timesNamed onceBelow wholeTable scoped shallow letter? digit? capital labelForm?
@@ -91,4 +100,7 @@ letter-cases =
       two-names = refl;
       typed-beside = refl;
       written = small-written;
+      written-text = small-text;
+      hash = hashes .0;
+      hash-small = hashes .1;
     }

@@ -18,5 +18,7 @@ pub mod Slips
 pub mod Layouts
 pub mod Modes
 pub mod CaseLabels
+pub mod CaseFile
+pub mod CaseText
 pub mod CaseCalls
 pub mod Claims

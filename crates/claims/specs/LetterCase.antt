@@ -2,20 +2,21 @@
 -- in logs, rule files and typed rules, and the record and all rules written out keep the capital form." What a byte
 -- counts as; that labels are one label exactly if their capitals are the same; that a record and a rule hold capitals
 -- only; and that writing labels in another case changes no answer of any call and nothing that it leaves.
-use Prim.Native.Nat.{ℕ, suc, _≤_, _<_}
+use Prim.Native.Nat.{ℕ, suc, _%_, _≤_, _<_}
 use mathlib.Core.Path.{_≡_}
 use mathlib.Core.Logic.{_≢_, _↔_}
 use mathlib.Core.List.{List, []}
-use lib.ListN.{length, getD}
+use lib.ListN.{length, getD, take}
 use Rattle.labels.specs.Label.{capital, CountsAs, capitals, text, noLabel}
-use Rattle.labels.specs.Table.{labelAt}
+use Rattle.labels.specs.Fnv.{fnvOf}
+use Rattle.labels.specs.Table.{labelAt, labelPlaces, firstPlace}
 use Rattle.lines.specs.Log.{linesOf}
 use Rattle.trace.specs.declared.Record.{Record}
 use Rattle.trace.specs.Trace.{Trace, runAt, beginLine, Accepted}
 use Rattle.trace.specs.Record.{Valid}
 use Rattle.pairs.specs.Layout.{workSize}
 use Rattle.rules.specs.Formula.{Formula, both, neg, exists, has, pair}
-use Rattle.grammar.specs.Written.{IsLabel}
+use Rattle.grammar.specs.Written.{LabelByte, IsLabel}
 use Rattle.grammar.specs.Forms.{Begins}
 use Rattle.grammar.specs.MetRule.{MetRule}
 use Rattle.grammar.specs.Stands.{RuleFile}
@@ -26,7 +27,8 @@ use Rattle.slips.specs.declared.Finding.{Finding}
 use Rattle.slips.specs.declared.Passing.{Passing}
 use Rattle.slips.specs.Answers.{FindsFirst, ReadsSlip}
 use Rattle.report.specs.Calls.{LineCall, TalliedCall, LogCall, ReportCall}
-use Rattle.letter_case.specs.Recased.{RecasedLog, RecasedRule, RecasedText}
+use Rattle.output.specs.declared.Written.the-variants.{Length}
+use Rattle.letter_case.specs.Recased.{InLabel, InQuotes, RecasedLog, RecasedRule, RecasedText}
 use Rattle.claims.specs.WhereMet.{Ruled}
 use Rattle.claims.specs.Modes.{SameLeft, SameLeftReport}
 use Rattle.claims.specs.Typed.{ReadCall, WriteCall}
@@ -59,6 +61,9 @@ pub record SmallLetter (r : Record) : Type 0 where
   pub high : getD (getD (r .labels .labels) label noLabel .bytes) place 0 ≤ 122
 
 pub record OneLabel : Type 0 where
+  -- every run of an accepted log begins with such a line
+  pub each : (log : List ℕ) (t : Trace) → Accepted log t → (k : ℕ) → k < length (t .runs)
+      → (s : List ℕ) × WrittenAt log t k s
   -- a to z count as A to Z, and every other byte as itself
   pub byte : (b c : ℕ) → (capital b ≡ c) ↔ CountsAs b c
   -- "has label": a run has the label l if it has one, and its capitals are l
@@ -70,6 +75,9 @@ pub record OneLabel : Type 0 where
   -- they are one label of the log, with one number
   pub number : (log : List ℕ) (t : Trace) → Accepted log t → (j k : ℕ) (s r : List ℕ) → WrittenAt log t j s
       → WrittenAt log t k r → (runAt t j .label .0 ≡ runAt t k .label .0) ↔ (capitals s ≡ capitals r)
+  -- "The hash runs over the capitals."
+  pub hash : (log : List ℕ) (t : Trace) → Accepted log t → (k : ℕ) (s : List ℕ) → WrittenAt log t k s → s ≢ []
+      → firstPlace (labelAt (t .labels) (runAt t k .label .0)) ≡ fnvOf (capitals s) % labelPlaces
   -- "the record check (capitals only)": the labels of a record that accepted lines leave are of A to Z, 0 to 9 and
   -- underscore, and a record with a small letter is refused with 21
   pub record-labels : (log : List ℕ) (t : Trace) → Accepted log t → (n : ℕ) → 1 ≤ n → n ≤ length (t .labels)
@@ -77,9 +85,17 @@ pub record OneLabel : Type 0 where
   pub no-small-letter : (r : Record) → SmallLetter r → Valid r → ⊥
   pub refused : (k : LineCall) → SmallLetter (k .state) → workSize (k .layout) ≤ length (k .work) → Ruled (k .file)
       → k .answer ≡ refusing (k .state) 21
-  -- "all rules written out keep the capital form": the formula of a rule file names labels in capitals, and the rule
-  -- file of a formula (`ruleFile`) and its text (`ruleText`) have the labels that it names
+  -- the formula of a rule file names labels in capitals
   pub rule-labels : (file : List ℕ) (f : Formula) → RuleFile file f → EachLabel IsLabel f
+
+-- ── rules that are written out ──
+-- "all rules written out keep the capital form", of the bytes that are written: those of a label in a rule file that is
+-- made from a typed rule, and those between quotes in the text of a rule file
+pub record WrittenOut : Type 0 where
+  pub file : (k : ReadCall) (n : ℕ) → k .answer ≡ Length n → (p : ℕ) → InLabel (take n (k .rule′)) p
+      → LabelByte (getD (take n (k .rule′)) p 0)
+  pub text : (k : WriteCall) (n : ℕ) → k .answer ≡ Length n → (p : ℕ) → InQuotes (take n (k .text′)) p → p < n
+      → getD (take n (k .text′)) p 0 ≢ 39 → LabelByte (getD (take n (k .text′)) p 0)
 
 -- ── in another case ──
 -- two calls that are handed and lent the same, but for the case of letters where labels stand
@@ -137,4 +153,5 @@ pub record NoDifference : Type 0 where
 
 pub record LetterCase : Type 0 where
   pub one : OneLabel
+  pub out : WrittenOut
   pub same : NoDifference

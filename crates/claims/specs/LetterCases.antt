@@ -4,6 +4,7 @@ use mathlib.Core.Path.{_≡_}
 use mathlib.Core.List.{List, [], _∷_, _++_}
 use Rattle.lists.specs.Lists.{bytes}
 use Rattle.labels.specs.Label.{capital, labelNo, labelOf}
+use Rattle.labels.specs.Table.{firstPlace}
 use Rattle.trace.specs.declared.Run.{Run}
 use Rattle.trace.specs.Trace.{Answer, next, refused, line, read}
 use Rattle.rules.specs.declared.RuleRead.the-variants as RuleRead
@@ -12,6 +13,7 @@ use Rattle.rules.specs.Cases.{p1File, p1Rule, noEveningIncludesTest}
 use Rattle.output.specs.declared.Written.the-variants.{Length, Refused}
 use Rattle.typed.specs.Grammar.{readText}
 use Rattle.typed_file.specs.Answer.{typedAnswer, bytesOf}
+use Rattle.rule_text.specs.Text as Text
 use Rattle.rule_text.specs.Text.{textAnswer}
 use Rattle.report.specs.Text.{reportText}
 
@@ -70,5 +72,10 @@ pub record LetterCases : Type 0 where
   pub small-word : typedAnswer (bytes "Exist A . A < A") 599 ≡ Refused 25
   pub two-names : typedAnswer (bytes "exist Ab . AB < AB") 599 ≡ Refused 9
   pub typed-beside : typedAnswer (bytes "exist A . A('a-b')") 599 ≡ Refused 5
-  -- "all rules written out keep the capital form": the text of the file with small letters is that of P1's
+  -- "all rules written out keep the capital form"
   pub written : textAnswer p1Small 4096 ≡ Length 53
+  pub written-text : Text.bytesOf p1Small (ruleOf p1Small)
+      ≡ bytes "!(exist A.(exist B.((A('EVENING')&B('TEST'))&A i B)))"
+  -- "The hash runs over the capitals.": EVENING has the first place 15, where the bytes `evening` would have 47
+  pub hash : firstPlace (labelOf (bytes "EVENING")) ≡ 15
+  pub hash-small : firstPlace (labelOf (bytes "evening")) ≡ 47

@@ -9,7 +9,7 @@ use Rattle.lists.specs.Lists.{pad, all?, same?}
 use Rattle.labels.specs.declared.Label.{Label}
 use Rattle.labels.specs.declared.LabelNo.{LabelNo}
 
--- A decimal digit; a byte of a label: "from A to Z, 0 to 9 and underscore".
+-- A decimal digit; a byte of a label in capitals: "from A to Z, 0 to 9 and underscore".
 unfoldable pub digit? : ℕ → Bool
 digit? b = leb 48 b && leb b 57
 

@@ -1,22 +1,21 @@
 -- A log in another case says the same. What a line says depends on its first byte and on the capitals of the others (`event-kept`), and
 -- the lines of a log depend on the first byte of each and on the capitals of the others (`lines-folded`).
-use Prim.Native.Nat.{ℕ, zero, suc, _<_}
+use Prim.Native.Nat.{ℕ, zero, suc}
 use mathlib.Core.Path.{_≡_, refl, ap, ap₂, sym, _∙_}
-use mathlib.Core.Logic.{_≢_}
 use mathlib.Core.Bool.{Bool, true, false, not, _&&_, _||_, cond}
 use mathlib.Core.List.{List, [], _∷_, map}
 use native.Mathlib.Omega.{arith}
 use lib.Dec.{eqb, leb}
 use lib.ListN.{length, getD, length-map}
-use borrow.Author.Tests.{eq-eqb, ne-eqb, le-leb, lt-leb, eqb-true}
+use borrow.Author.Tests.{le-leb, lt-leb, eqb-true}
 use Rattle.lists.specs.Lists.{none?, all?, has?, upTo, past}
-use Rattle.lists.proofs.Cases.{either-eq, either-lt, either-bool, never, and-left, and-right}
-use Rattle.labels.specs.Label.{digit?, letter?, capital, capitals, labelForm?}
+use Rattle.lists.proofs.Cases.{either-lt, either-bool, never, and-left, and-right}
+use Rattle.labels.specs.Label.{digit?, capital, capitals, labelForm?}
 use Rattle.labels.proofs.Capitals.{capital-low, capital-high, capital-small, capital-sign, capitals-has, capitals-up, capitals-past}
-use Rattle.lines.specs.Event.{Event, begins, ends, faulty}
+use Rattle.lines.specs.Event.{Event, begins, faulty}
 use Rattle.lines.specs.Line.{idForm?, idRange?, value, endEvent, plainEvent, labelEvent, beginEvent, bodyEvent, eventOf}
-use Rattle.lines.specs.Log.{glue, joinByte, linesOf}
-use Rattle.letter_case.specs.Recased.{BehindFirst, RecasedLog}
+use Rattle.lines.specs.Log.{glue, linesOf}
+use Rattle.letter_case.specs.Recased.{RecasedLog}
 
 -- ── an id's digits have no case ──
 digit-capital : (b : ℕ) → digit? (capital b) ≡ digit? b

@@ -14,14 +14,13 @@ use Rattle.labels.specs.Label.{capital, capitals, labelLength?, labelForm?}
 use Rattle.labels.proofs.Capitals.{capitals-take, capitals-drop}
 use Rattle.rules.specs.Limits.{maxLabels, maxNodes, maxNested}
 use Rattle.rules.specs.Formula.{Formula, both, neg, exists, has, noScope, scoped, shallow}
-use Rattle.rules.specs.Parts.{byte, part, andThen, readMark, readVersion, labelCount, readLabelCount, readNodeCount, nothingFollows}
+use Rattle.rules.specs.Parts.{byte, part, readMark, readVersion, labelCount, readLabelCount, readNodeCount, nothingFollows}
 use Rattle.rules.specs.Labels.{labelStart, labelFrom, labelBytes, listed, readLabel, readLabels}
 use Rattle.rules.specs.Table.{Op, opAnd, opNot, opSome, opHas, opNone, opPair, opOf, nodeAt, fieldsOk, readNodes, shape, formulaFrom, tree, formulaAt}
 use Rattle.rules.specs.Checks.{nodeNames, timesNamed, onceBelow, unless, wholeTable}
 use Rattle.rules.specs.Rules.{ruleOf, formulaOf}
 use Rattle.rules.specs.declared.Node.{Node}
-use Rattle.rules.specs.declared.Read.{Read}
-use Rattle.rules.specs.declared.Read.the-variants.{At, Refused}
+use Rattle.rules.specs.declared.Read.the-variants.{Refused}
 use Rattle.rules.specs.declared.Rule.{Rule}
 use Rattle.rules.specs.declared.RuleRead.{RuleRead}
 use Rattle.rules.specs.declared.RuleRead.the-variants as RuleRead

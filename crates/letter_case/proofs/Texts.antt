@@ -26,10 +26,10 @@ use Rattle.letter_case.specs.Recased.{quotesOpen, RecasedText}
 
 -- ── a text with capitals between its quotes ──
 -- whether a quote is open behind a byte, and behind a text; o says whether one was open before
-abbrev flips : Bool → ℕ → Bool
+abbrev pub flips : Bool → ℕ → Bool
 flips o b = cond (eqb b 39) (not o) o
 
-abbrev openAfter : Bool → List ℕ → Bool
+abbrev pub openAfter : Bool → List ℕ → Bool
 openAfter o [] = o
 openAfter o (b ∷ s) = openAfter (flips o b) s
 
@@ -48,7 +48,7 @@ open-not : (o : Bool) (s : List ℕ) → openAfter (not o) s ≡ not (openAfter 
 open-not o [] = refl
 open-not o (b ∷ s) = either-bool (eqb b 39) (λ e. simp e (open-not (not o) s)) (λ e. simp e (open-not o s))
 
-open-count : (s : List ℕ) → openAfter false s ≡ quotesOpen s
+pub open-count : (s : List ℕ) → openAfter false s ≡ quotesOpen s
 open-count [] = refl
 open-count (b ∷ s) =
     either-bool (eqb b 39) (λ e. simp e (open-not false s ∙ ap not (open-count s))) (λ e. simp e (open-count s))

@@ -21,7 +21,7 @@ Binding = ℕ → ℕ
 abbrev pub bind : Binding → ℕ → ℕ → Binding
 bind ρ v j w = cond (eqb v w) j (ρ w)
 
--- "data(j) is the data value associated with the interval": run j of t has a label, and its bytes are l.
+-- "data(j) is the data value associated with the interval": run j of t has a label, and its capitals are l.
 -- A run without a label (number 0) has none: "a missing label matches nothing, not even itself".
 pub record HasLabel (t : Trace) (j : ℕ) (l : List ℕ) : Type 0 where
   pub labelled : runAt t j .label .0 ≢ 0

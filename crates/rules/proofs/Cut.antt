@@ -19,8 +19,7 @@ use Rattle.rules.specs.Labels.{labelStart, labelFrom, labelBytes, listed
 use Rattle.rules.specs.Table.{nodeAt, fieldsOk, readNodes}
 use Rattle.rules.specs.Rules.{ruleOf}
 use Rattle.rules.specs.declared.Node.{Node}
-use Rattle.rules.specs.declared.Read.{Read}
-use Rattle.rules.specs.declared.Read.the-variants.{At, Refused}
+use Rattle.rules.specs.declared.Read.the-variants.{Refused}
 use Rattle.rules.specs.declared.RuleRead.{RuleRead}
 use Rattle.rules.specs.declared.RuleRead.the-variants as RuleRead
 use Rattle.rules.proofs.Parts.{part-read, then-stop, then-same, count-read, more-follows}

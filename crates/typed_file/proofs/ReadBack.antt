@@ -140,6 +140,22 @@ module _ (text tb : List ℕ) (n : ℕ) (ls : List (List ℕ)) where
       let v = length-append l [] in
       omega (arith, front-long i, front-long (suc i), ap length t)
 
+  -- the length byte of a label, and byte j behind it: as they were written
+  pub label-long : (i : ℕ) → i < length ls → byte file (labelStart file i) ≡ length (getD ls i [])
+  label-long i h = ap (byte file) (place-is i (omega arith)) ∙ label-size i h
+
+  pub label-byte : (i j : ℕ) → i < length ls → j < length (getD ls i []) → byte file (labelStart file i + 1 + j) ≡ getD (getD ls i []) j 0
+  label-byte i j h k =
+      let l = getD ls i [] in
+      let rest = labelsPart (drop (suc i) ls) ++ tail in
+      let x = firsts i ++ (length l ∷ []) in
+      let e : file ≡ x ++ (l ++ rest) = split-label i h ∙ sym (append-assoc (firsts i) (length l ∷ []) (l ++ rest)) in
+      let a : length x ≡ length (firsts i) + 1 = length-append (firsts i) (length l ∷ []) in
+      let b : labelStart file i + 1 + j ≡ length x + j = omega (arith, place-is i (omega arith)) in
+      ap (byte file) b
+      ∙ (ap (λ (y : List ℕ). getD y (length x + j) 0) e
+      ∙ (getD-append-add x (l ++ rest) j 0 ∙ List·getD-append l rest 0 j k))
+
   -- labels of the right form are in capitals, so they stand in the file as they are
   pub label-is : goodLabels? ls ≡ true → (i : ℕ) → i < length ls → Labels.labelBytes file i ≡ getD ls i []
   label-is g i h = ap (labelFrom file) (place-is i (omega arith)) ∙ (label-bytes i h ∙ good-form ls i g h .capital)

@@ -137,8 +137,8 @@ fn logs_in_capitals(runs: usize) -> [(String, Log); 4] {
     ]
 }
 
-/// A log that is full but for its last run, of which all labels are known; a begin line with a known label in capitals,
-/// and the end line of a run.
+/// The begin lines of all runs but the last, with all labels; a begin line with a known label in capitals, and the end
+/// line of a run.
 fn log_and_lines() -> (Log, [(&'static str, Vec<u8>); 2]) {
     let long = long_labels();
     let full = begins_first(MAX_RUNS, &long);

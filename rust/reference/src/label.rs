@@ -61,7 +61,7 @@ pub fn place_in(labels: &[impl AsRef<[u8]>], label: &[u8]) -> Option<usize> {
 mod tests {
     use super::*;
 
-    /// "Folding touches a to z only": the 26 bytes from 97 on become those from 65 on.
+    /// Only a to z are folded: the 26 bytes from 97 on become those from 65 on.
     #[test]
     fn twenty_six_bytes_have_a_capital_and_every_other_byte_stays() {
         for byte in 0..=255 {

@@ -5,9 +5,6 @@ use borrow.Author.Needs.{needs}
 use Rattle.text_labels.proofs.LabelPieces.{SameFrom, same-first, same-differ, same-end, same-next, same-out}
 use Rattle.text_labels.proofs.same_from.Statement.{statement}
 use Rattle.text_labels.proofs.same_from.Tie as tie
-use Rattle.text_labels.proofs.same_from.Reads as reads
-use Rattle.text_labels.proofs.same_from.Lts as lts
-use Rattle.text_labels.proofs.capital_or_quote.Reads as capital-or-quote-reads
 
 abbrev Inv-loop : tie.InvT-loop
 Inv-loop text a b i₀ i = SameFrom text a b i

@@ -2,6 +2,7 @@ pub mod Letters
 pub mod Capitals
 pub mod Form
 pub mod Hash
+pub mod Compared
 pub mod Same
 pub mod Probe
 pub mod Placed

@@ -9,6 +9,7 @@ ghost use mathlib.Core.List.{[]};
 ghost use Prim.Native.Nat.{ℕ, _+_, _*_, _%_, _<_, _≤_};
 ghost use lib.ListN.{length};
 ghost use Rattle.lists.specs.Limits.{maxLogLabels};
+ghost use Rattle.lists.specs.Lists.{same?};
 ghost use Rattle.lists.specs.Tells.{Tells};
 ghost use Rattle.labels.specs.Fnv.{fnvOf, fnvStep};
 ghost use Rattle.labels.specs.Label.{maxLabelBytes, letter?, capital, capitals, labelForm?, labelOf, noLabel, byteSound, sound?};
@@ -118,6 +119,27 @@ pub fn is_label(s: &[u8]) -> bool
     while i < s.len() {
         let c = capital_byte(s[i]);
         if !label_byte(c) {
+            return false;
+        }
+        i += 1;
+    }
+    true
+}
+
+// Whether two labels as they are written have the same capitals.
+pub fn same_label(a: &[u8], b: &[u8]) -> bool
+    ensures { λ r. ⌜ r ≡ same? (capitals (now (a .entry))) (capitals (now (b .entry))) ⌝ }
+{
+    if a.len() != b.len() {
+        return false;
+    }
+    let mut i = 0;
+    while i < a.len() {
+        let p = a[i];
+        let q = b[i];
+        let x = capital_byte(p);
+        let y = capital_byte(q);
+        if x != y {
             return false;
         }
         i += 1;

@@ -2,34 +2,12 @@
 ghost use mathlib.Core.Path.{_≡_};
 ghost use Prim.Native.Nat.{_+_, _≤_};
 ghost use lib.ListN.{length};
-ghost use Rattle.lists.specs.Lists.{same?};
 ghost use Rattle.labels.specs.Label.{capitals, maxLabelBytes, labelOf};
 ghost use Rattle.rules.specs.Parts.{byte};
 ghost use Rattle.rules.specs.Labels.{labelStart, labelFrom, labelBytes, listed, readLabel, readLabels, LabelsOk};
 use crate::LABELS_AT;
 use crate::Read;
 use labels::MAX_LABEL_BYTES;
-
-// Whether two labels as they are written have the same capitals.
-fn same_label(a: &[u8], b: &[u8]) -> bool
-    ensures { λ r. ⌜ r ≡ same? (capitals (now (a .entry))) (capitals (now (b .entry))) ⌝ }
-{
-    if a.len() != b.len() {
-        return false;
-    }
-    let mut i = 0;
-    while i < a.len() {
-        let p = a[i];
-        let q = b[i];
-        let x = labels::capital_byte(p);
-        let y = labels::capital_byte(q);
-        if x != y {
-            return false;
-        }
-        i += 1;
-    }
-    true
-}
 
 // Whether one of the first n labels is the label at a place, that of label n.
 fn is_listed(file: &[u8], n: usize, at: usize) -> bool
@@ -43,7 +21,7 @@ fn is_listed(file: &[u8], n: usize, at: usize) -> bool
     while m < n {
         let a = p + 1;
         let e = a + file[p] as usize;
-        if same_label(&file[a..e], &file[from..end]) {
+        if labels::same_label(&file[a..e], &file[from..end]) {
             return true;
         }
         p = e;

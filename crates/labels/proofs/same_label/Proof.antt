@@ -4,10 +4,10 @@ use mathlib.Core.Path.{_≡_, refl}
 use lib.ListN.{length, drop}
 use borrow.Author.Needs.{needs}
 use Rattle.lists.specs.Lists.{same?}
 use Rattle.labels.specs.Label.{capitals}
-use Rattle.rules.proofs.Labels.{bytes-next, bytes-stop, bytes-end, bytes-length}
-use Rattle.rules.proofs.file_labels.same_label.Statement.{statement}
-use Rattle.rules.proofs.file_labels.same_label.Tie as tie
+use Rattle.labels.proofs.Compared.{bytes-next, bytes-stop, bytes-end, bytes-length}
+use Rattle.labels.proofs.same_label.Statement.{statement}
+use Rattle.labels.proofs.same_label.Tie as tie
 
 abbrev Inv-loop : tie.InvT-loop
 Inv-loop a b i₀ i = (i ≤ length a) × (same? (drop i (capitals a)) (drop i (capitals b)) ≡ same? (capitals a) (capitals b))

@@ -1,0 +1,10 @@
+pub mod Lines
+pub mod Compared
+pub mod Entries
+pub mod Follows
+pub mod Inside
+pub mod Order
+pub mod Texts
+pub mod Written
+pub mod Meaning
+pub mod Answers

@@ -3,3 +3,4 @@ mod Numbered
 mod InBytes
 pub mod Texts
 mod Slips
+pub mod LabelText

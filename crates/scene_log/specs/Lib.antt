@@ -2,3 +2,4 @@ pub mod Numbers
 pub mod InBytes
 pub mod Texts
 pub mod Slips
+pub mod LabelText

@@ -5,13 +5,16 @@
 // has the contracts. The carried record is 2,628 bytes, in the form of `record_bytes`, and a tally is five numbers;
 // `specs/InBytes.antt` has the contracts of the calls that take them. A slip is a byte a run; `specs/Slips.antt` has its contracts. A call
 // that is lent a work area names its layout by a number, and `in_layout` has it for each layout. A call on a whole log names a mode by
-// a number too: 1 is the full one, any other the default, which stops at the first failure.
+// a number too: 1 is the full one, any other the default, which stops at the first failure. The text of a label is told by its place;
+// `specs/LabelText.antt` has the contract.
 ghost use mathlib.Core.Path.{_≡_};
 ghost use Rattle.labels.specs.Fnv.{fnvOf};
 ghost use Rattle.scene_log.specs.Numbers.{ComposesNumbers, ConversesNumber, ChecksLogFor, ReportsFor};
 ghost use Rattle.scene_log.specs.Texts.{ReadsTextNumber, WritesTextNumber};
 ghost use Rattle.scene_log.specs.Slips.{FindsNumber, PassesNumber};
+ghost use Rattle.scene_log.specs.LabelText.{PlacesNumbers};
 ghost use Rattle.scene_log.specs.InBytes.{StartsFor, ChecksLineFor, ChecksTalliedFor, KeepsLogFor, RelatesNumber};
+use label_book::Piece;
 use trace::RunNo;
 
 mod in_layout;
@@ -203,6 +206,35 @@ pub extern "C" fn scene_log_slip_passes(rule: &[u8], carried: &[u8], slip: &[u8]
     let x = slip_bytes::slip_from(slip);
     let a = slips::passes(rule, state, x);
     slip_bytes::passing_number(a)
+}
+
+// Where the text of a label of a log stands: 0 in the book, 1 in the log, with the place of its first byte and its length in the two
+// numbers; or the refusal, and the numbers stay.
+#[no_mangle]
+pub extern "C" fn scene_log_label_text(
+    book: &[u8],
+    log: &[u8],
+    place: usize,
+    length: usize,
+    start: &mut usize,
+    size: &mut usize,
+) -> u32
+    ensures { λ n. ⌜ PlacesNumbers (now (book .entry)) (now (log .entry)) place length (now (start .entry)) (now (size .entry)) n (now (start .exit)) (now (size .exit)) ⌝ }
+{
+    let p = label_book::piece_for(book, log, place, length);
+    match p {
+        Piece::InBook(first, end) => {
+            *start = first;
+            *size = end - first;
+            return 0;
+        }
+        Piece::InLog(first, end) => {
+            *start = first;
+            *size = end - first;
+            return 1;
+        }
+        Piece::Refused(n) => return (n as u32) * answer_numbers::REFUSAL_STEP,
+    }
 }
 
 // The composition of two sets of relations, or the refusal.

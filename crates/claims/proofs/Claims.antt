@@ -19,6 +19,7 @@ use Rattle.claims.proofs.CaseLabels.{one-label}
 use Rattle.claims.proofs.CaseFile.{file-capitals}
 use Rattle.claims.proofs.CaseText.{text-capitals}
 use Rattle.claims.proofs.CaseCalls.{no-difference}
+use Rattle.claims.proofs.LabelBook.{the-label-book}
 use Rattle.claims.proofs.Worked as Worked
 
 is-composed : (a b : ℕ) → a < 64 → b < 64 → composedOf a b ≡ Composed.Set (composeOf a b)
@@ -34,7 +35,7 @@ demand-3 a b h k v c =
     }
 
 pub the-demands : Demands
-the-demands = record { first = demand-1; second = demand-2; third = demand-3; typed = typed-rules; slips = the-slips; layouts = the-layouts; modes = the-modes; letters = record { one = one-label; out = record { file = file-capitals; text = text-capitals }; same = no-difference } }
+the-demands = record { first = demand-1; second = demand-2; third = demand-3; typed = typed-rules; slips = the-slips; layouts = the-layouts; modes = the-modes; letters = record { one = one-label; out = record { file = file-capitals; text = text-capitals }; same = no-difference }; book = the-label-book }
 
 pub the-cases : Cases
 the-cases = Worked.the-cases

@@ -11,6 +11,7 @@ pub mod TypedCases
 pub mod SlipCases
 pub mod IdCases
 pub mod LetterCases
+pub mod BookCases
 pub mod ModeCases
 pub mod Worked
 pub mod Typed
@@ -21,4 +22,5 @@ pub mod CaseLabels
 pub mod CaseFile
 pub mod CaseText
 pub mod CaseCalls
+pub mod LabelBook
 pub mod Claims

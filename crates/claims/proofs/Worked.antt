@@ -33,6 +33,7 @@ use Rattle.claims.proofs.TypedCases.{typed-cases}
 use Rattle.claims.proofs.SlipCases.{slip-cases}
 use Rattle.claims.proofs.IdCases.{id-cases}
 use Rattle.claims.proofs.LetterCases.{letter-cases}
+use Rattle.claims.proofs.BookCases.{book-cases}
 use Rattle.claims.proofs.ModeCases.{mode-cases}
 
 -- ── P1 ──
@@ -94,4 +95,4 @@ layout-cases : LayoutCases
 layout-cases = record { of-0-1 = (refl, refl); of-0-2 = (refl, refl); of-1-2 = (refl, refl); of-0-127 = (refl, refl); of-126-127 = (refl, refl) }
 
 pub the-cases : Cases
-the-cases = record { p1 = p1-case; p2-to-p8 = examples; p9 = p9-case; p10 = p10-case; numbers = the-numbers; typed = typed-cases; slips = slip-cases; ids = id-cases; layouts = layout-cases; modes = mode-cases; letters = letter-cases }
+the-cases = record { p1 = p1-case; p2-to-p8 = examples; p9 = p9-case; p10 = p10-case; numbers = the-numbers; typed = typed-cases; slips = slip-cases; ids = id-cases; layouts = layout-cases; modes = mode-cases; letters = letter-cases; book = book-cases }

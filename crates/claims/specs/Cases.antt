@@ -30,6 +30,7 @@ use Rattle.claims.specs.TypedCases.{TypedCases}
 use Rattle.claims.specs.SlipCases.{SlipCases}
 use Rattle.claims.specs.IdCases.{IdCases}
 use Rattle.claims.specs.LetterCases.{LetterCases}
+use Rattle.claims.specs.BookCases.{BookCases}
 
 pub record P1 : Type 0 where
   pub size : length p1File ≡ 44
@@ -110,3 +111,4 @@ pub record Cases : Type 0 where
   pub layouts : LayoutCases
   pub modes : ModeCases
   pub letters : LetterCases
+  pub book : BookCases

@@ -39,9 +39,9 @@ use Rattle.claims.specs.WhereMet.{Met, MetTally, MetLog, MetRelate}
 -- "If any log, rule file, carried record or lent buffer comes in, the call ends and does nothing undefined. Each
 -- refusal is on the numbered list, is met just where the list says, and changes nothing that earlier lines had
 -- settled."
--- The list goes to 26; which of them a call answers is said where it is met.
+-- The list goes to 27; which of them a call answers is said where it is met.
 abbrev pub Listed : ℕ → Type 0
-Listed c = (1 ≤ c) × (c ≤ 26)
+Listed c = (1 ≤ c) × (c ≤ 27)
 
 pub record Refuses (c : ℕ) (answered met kept : Type 0) : Type 0 where
   pub listed : answered → Listed c

@@ -1,6 +1,6 @@
--- The three demands, the typed rules, the slips, the layouts, the modes and the case of labels, as eight statements
--- about every call (`Calls.antt`, `Typed.antt`, `Slips.antt`): of whatever the calls answer and leave by their
--- contracts. That a call ends and does nothing undefined is proved of every function.
+-- The three demands, the typed rules, the slips, the layouts, the modes, the case of labels and the label book, as nine
+-- statements about every call (`Calls.antt`, `Typed.antt`, `Slips.antt`, `LabelBook.antt`): of whatever the calls
+-- answer and leave by their contracts. That a call ends and does nothing undefined is proved of every function.
 --
 -- The words of this page, and where they are defined:
 --   Accepted log t      no line of log meets a refusal, and its lines leave the trace t   trace/specs/Trace
@@ -19,6 +19,9 @@
 --   logPart, reportPart the part that a call reads                                        report/specs/Calls
 --   capital, capitals   what a byte of a label counts as; the capitals of a label as written labels/specs/Label
 --   RecasedLog, RecasedRule, RecasedText   a log, a rule file, a text in another case      letter_case/specs/Recased
+--   Book b es           the bytes b are the label book with the lines es                  label_book/specs/Book
+--   LabelAt, MetPiece, TextOfBook, BytesOfLog   a piece of a log, where it is refused, and the text that it has
+--   Places, Hands, Stands   the call that places a piece, and the twin that hands it back label_book/specs/Piece
 --   Lent, Beyond        a lent buffer; what stands behind the bytes that a call writes    report/specs/Calls
 --   Grammar.Says text t the text is inside the grammar of typed rules and says the tree t typed_grammar/specs/Grammar
 --   formulaSaid t       the formula that the tree says, each name the level of its exist  typed_grammar/specs/Formula
@@ -56,6 +59,7 @@ use Rattle.claims.specs.Slips.{Slips}
 use Rattle.claims.specs.Layouts.{Layouts}
 use Rattle.claims.specs.Modes.{Modes}
 use Rattle.claims.specs.LetterCase.{LetterCase}
+use Rattle.claims.specs.LabelBook.{LabelBook}
 
 -- "Take any of the 64 × 64 pairs of sets of relations, the empty set included, and any relation. That relation is in
 -- the composition that we report for the pair exactly when some accepted log, of any length, has three different
@@ -86,3 +90,5 @@ pub record Demands : Type 0 where
   pub modes : Modes
   -- labels in either case: "treat a to z as A to Z"
   pub letters : LetterCase
+  -- the house label book: "hand back the book's own text where the label is listed"
+  pub book : LabelBook

@@ -6,10 +6,12 @@ pub mod Slips
 pub mod Layouts
 pub mod Modes
 pub mod LetterCase
+pub mod LabelBook
 pub mod Demands
 pub mod Lessons
 pub mod TypedCases
 pub mod SlipCases
 pub mod IdCases
 pub mod LetterCases
+pub mod BookCases
 pub mod Cases

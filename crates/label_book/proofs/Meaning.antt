@@ -20,7 +20,7 @@ use Rattle.label_book.specs.declared.Piece.{Piece}
 use Rattle.label_book.specs.declared.Piece.the-variants.{InBook, InLog, Refused}
 use Rattle.label_book.specs.Book.{Entry, noEntry, bookBytes, RightEntry, Rising, Book, TextAt}
 use Rattle.label_book.specs.Reading.{entriesFrom, risingFrom?, inOrder, bookOf, textFrom}
-use Rattle.label_book.specs.Piece.{pieceAt, LabelAt, MetPiece, no-book, no-label, Listed, Unlisted, PieceMeans, labelAt?, pieceOf, pieceIn, pieceFor, Inside, Places}
+use Rattle.label_book.specs.Piece.{pieceAt, LabelAt, MetPiece, no-book, no-label, TextOfBook, BytesOfLog, PieceMeans, labelAt?, pieceOf, pieceIn, pieceFor, Inside, Places}
 use Rattle.label_book.proofs.Order.{rising-is}
 use Rattle.label_book.proofs.Texts.{never-no-book, text-missing, text-listed}
 use Rattle.label_book.proofs.Written.{entries-written, text-some, text-within}
@@ -98,12 +98,12 @@ module _ (b log : List ℕ) (p n : ℕ) where
       go (some es) e = absurd (h es (book-read b es .0 e))
   met-answered c (no-label es k h q) = other-piece es (book-read b es .1 k) (not-label log p n h) ∙ ap Refused (sym q)
 
-  listed-answered : (start end : ℕ) → Listed b log p n start end → pieceFor b log p n ≡ InBook start end
+  listed-answered : (start end : ℕ) → TextOfBook b log p n start end → pieceFor b log p n ≡ InBook start end
   listed-answered start end w =
       label-piece (w .entries) (book-read b (w .entries) .1 (w .is-book)) (label-at-is log p n .1 (w .is-label)) (Text start end)
       (text-listed (w .entries) (pieceAt log p n) (w .is-book .rising) start end .1 (w .text))
 
-  unlisted-answered : (start end : ℕ) → Unlisted b log p n start end → pieceFor b log p n ≡ InLog start end
+  unlisted-answered : (start end : ℕ) → BytesOfLog b log p n start end → pieceFor b log p n ≡ InLog start end
   unlisted-answered start end w =
       label-piece (w .entries) (book-read b (w .entries) .1 (w .is-book)) (label-at-is log p n .1 (w .is-label)) Missing
       (text-missing (w .entries) (pieceAt log p n) .1 (w .not-listed))
@@ -111,8 +111,8 @@ module _ (b log : List ℕ) (p n : ℕ) where
 
   -- what is answered is what is met, and a piece is some bytes
   abbrev Said : Piece → Type 0
-  Said (InBook start end) = Listed b log p n start end
-  Said (InLog start end) = Unlisted b log p n start end
+  Said (InBook start end) = TextOfBook b log p n start end
+  Said (InLog start end) = BytesOfLog b log p n start end
   Said (Refused c) = MetPiece b log p n c
 
   said-of : (es : List Entry) → Book b es → LabelAt log p n → (o : Listing) → textFrom 0 es (pieceAt log p n) ≡ o → Said (pieceOf o p n)

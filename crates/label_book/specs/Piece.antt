@@ -34,14 +34,14 @@ pub data MetPiece (book log : List ℕ) (p n c : ℕ) : Type 0 where
   no-label : (es : List Entry) → Book book es → (LabelAt log p n → ⊥) → c ≡ 13 → MetPiece book log p n c
 
 -- "the book's own text where the label is listed"
-pub record Listed (book log : List ℕ) (p n start end : ℕ) : Type 0 where
+pub record TextOfBook (book log : List ℕ) (p n start end : ℕ) : Type 0 where
   pub entries : List Entry
   pub is-book : Book book entries
   pub is-label : LabelAt log p n
   pub text : TextAt entries (pieceAt log p n) start end
 
 -- "otherwise the label's bytes as they stand in the log"
-pub record Unlisted (book log : List ℕ) (p n start end : ℕ) : Type 0 where
+pub record BytesOfLog (book log : List ℕ) (p n start end : ℕ) : Type 0 where
   pub entries : List Entry
   pub is-book : Book book entries
   pub is-label : LabelAt log p n
@@ -52,8 +52,8 @@ pub record Unlisted (book log : List ℕ) (p n start end : ℕ) : Type 0 where
 -- what an answer says, whichever it is
 pub record PieceMeans (book log : List ℕ) (p n : ℕ) (r : Piece) : Type 0 where
   pub refused : (c : ℕ) → (r ≡ Refused c) ↔ MetPiece book log p n c
-  pub in-book : (start end : ℕ) → (r ≡ InBook start end) ↔ Listed book log p n start end
-  pub in-log : (start end : ℕ) → (r ≡ InLog start end) ↔ Unlisted book log p n start end
+  pub in-book : (start end : ℕ) → (r ≡ InBook start end) ↔ TextOfBook book log p n start end
+  pub in-log : (start end : ℕ) → (r ≡ InLog start end) ↔ BytesOfLog book log p n start end
 
 -- ── by computing ──
 -- whether a piece is a label

@@ -109,8 +109,10 @@ fn precedes(s: &[u8], t: &[u8]) -> bool
         if t.len() <= i {
             return false;
         }
-        let x = labels::capital_byte(s[i]);
-        let y = labels::capital_byte(t[i]);
+        let p = s[i];
+        let q = t[i];
+        let x = labels::capital_byte(p);
+        let y = labels::capital_byte(q);
         if x < y {
             return true;
         }
@@ -159,10 +161,10 @@ pub fn look_up(book: &[u8], label: &[u8]) -> Listing
         let same = labels::same_label(label, &book[at..sign]);
         let start = sign + 1;
         let end = start + m;
-        found = found_with(found, same, start, end);
         from = at;
         to = sign;
         at = end + 1;
+        found = found_with(found, same, start, end);
     }
     found
 }

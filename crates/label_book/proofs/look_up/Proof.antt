@@ -111,11 +111,11 @@ add-start c = omega (arith, fits (c .before .before .before .before .before .bef
 add-end : tie.Need-add-end Inv-loop μ-loop
 add-end c = omega (arith, fits (c .before .before .before .before .before .before))
 
+add-at : tie.Need-add-at Inv-loop μ-loop
+add-at c = omega (arith, fits (c .before .before .before .before .before .before))
+
 found-with-requires : tie.Need-found-with-requires Inv-loop μ-loop
 found-with-requires c κs = search needs
-
-add-at : tie.Need-add-at Inv-loop μ-loop
-add-at c = omega (arith, fits (c .before .before .before .before .before .before .before))
 
 loop-less : tie.Need-loop-less Inv-loop μ-loop
 loop-less c =
@@ -169,8 +169,8 @@ look-up-spec =
     same-label-requires
     add-start
     add-end
-    found-with-requires
     add-at
+    found-with-requires
     loop-less
     loop-again
     returns-3)

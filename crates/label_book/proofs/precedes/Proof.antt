@@ -22,14 +22,14 @@ loop-holds c = (omega arith, refl)
 returns : tie.Need-returns Inv-loop μ-loop
 returns c = search orders
 
-shared-slice-read-capital-byte : tie.Need-shared-slice-read-capital-byte Inv-loop μ-loop
-shared-slice-read-capital-byte c = search needs
+shared-slice-read-p : tie.Need-shared-slice-read-p Inv-loop μ-loop
+shared-slice-read-p c = search needs
+
+shared-slice-read-q : tie.Need-shared-slice-read-q Inv-loop μ-loop
+shared-slice-read-q c = search needs
 
 capital-byte-requires : tie.Need-capital-byte-requires Inv-loop μ-loop
 capital-byte-requires c κs = search needs
-
-shared-slice-read-capital-byte-2 : tie.Need-shared-slice-read-capital-byte-2 Inv-loop μ-loop
-shared-slice-read-capital-byte-2 c = search needs
 
 capital-byte-requires-2 : tie.Need-capital-byte-requires-2 Inv-loop μ-loop
 capital-byte-requires-2 c κs = search needs
@@ -48,14 +48,15 @@ loop-less c = search needs
 
 loop-again : tie.Need-loop-again Inv-loop μ-loop
 loop-again c =
-    let after = c .before .before in
-    let first = after .before .before in
-    let at = first .before .before .before .before in
+    let second = c .before .before in
+    let first = second .before in
+    let tested = first .before .before .before in
+    let at = tested .before .before in
     let given = at .before .before .before .args in (
       omega arith,
-      capital-same (given .s .now) (given .t .now) (at .loop .i) (at .loop .inv .1) _ _ (first .capital-byte .ensures) (after .capital-byte2 .ensures)
-          (first .before .before .before .loop-test .taken)
-          (first .before .before .if1 .left)
+      capital-same (given .s .now) (given .t .now) (at .loop .i) (at .loop .inv .1) _ _ (first .capital-byte .ensures) (second .capital-byte2 .ensures)
+          (tested .before .loop-test .taken)
+          (tested .if1 .left)
           (c .if3 .left)
           (c .before .if2 .left),
     )
@@ -71,9 +72,9 @@ precedes-spec =
     μ-loop
     loop-holds
     returns
-    shared-slice-read-capital-byte
+    shared-slice-read-p
+    shared-slice-read-q
     capital-byte-requires
-    shared-slice-read-capital-byte-2
     capital-byte-requires-2
     returns-2
     returns-3

@@ -121,6 +121,23 @@ static int show_slip(void) {
     return !SCENE_LOG_REFUSED(answer);
 }
 
+/* Prints what the house calls the label of a begin line, and a label that its book does not list. The text is a part of
+ * the book or of the log, so nothing is copied. */
+static int show_texts(void) {
+    static const char book[] = "EVENING_W=Evening, west hall\nTEST=Emergency test\n";
+    static const char log[] = "B 7 evening_w\nB 8 FADE\n";
+    static const size_t places[] = {4, 18}, lengths[] = {9, 4};
+    size_t start, size, i;
+    for (i = 0; i < 2; i++) {
+        scene_log_answer answer = scene_log_label_text((const uint8_t *)book, strlen(book), (const uint8_t *)log, strlen(log),
+                                                       places[i], lengths[i], &start, &size);
+        if (SCENE_LOG_REFUSED(answer))
+            return 0;
+        printf("%.*s\n", (int)size, (SCENE_LOG_VALUE(answer) == SCENE_LOG_IN_BOOK ? book : log) + start);
+    }
+    return 1;
+}
+
 int main(void) {
-    return read_rule() && both_reports() && line_by_line() && record_of_log() && show_slip() ? 0 : 1;
+    return read_rule() && both_reports() && line_by_line() && record_of_log() && show_slip() && show_texts() ? 0 : 1;
 }

@@ -157,7 +157,8 @@ enum scene_log_refusal {
     SCENE_LOG_SAME_RUN = 23,
     SCENE_LOG_NO_TALLY = 24,
     SCENE_LOG_RULE_GRAMMAR = 25,
-    SCENE_LOG_RULE_NO_SLIPS = 26
+    SCENE_LOG_RULE_NO_SLIPS = 26,
+    SCENE_LOG_NO_BOOK = 27
 };
 
 /* The relations between two different finished runs; a set is a sum of them, 0 to 63. */
@@ -168,6 +169,12 @@ enum scene_log_relation {
     SCENE_LOG_OVERLAPPED_BY = 8,
     SCENE_LOG_INCLUDES = 16,
     SCENE_LOG_DURING = 32
+};
+
+/* Where the text of a label stands. */
+enum scene_log_text {
+    SCENE_LOG_IN_BOOK = 0,
+    SCENE_LOG_IN_LOG = 1
 };
 
 /* The counts of a tally, by their places. */
@@ -209,6 +216,8 @@ static inline const char *scene_log_refusal_text(uint32_t refusal) {
         "the tally's counts are not the record's, or its failing lines exceed its lines",
         "the typed rule is outside the grammar or longer than 4,096 bytes",
         "the rule is not a \"not\" over one to four \"some\" over a part without \"some\"",
+        "the book is outside its form: each line is a label, one = and 1 to 60 bytes of text, ended by LF, and the lines "
+        "are in byte order of the labels' capitals, without repeats",
     };
     return texts[refusal < sizeof texts / sizeof *texts ? refusal : 0];
 }
@@ -319,6 +328,19 @@ SCENE_LOG_CALL SCENE_LOG_NOT_NULL(3)
 scene_log_answer scene_log_slip_passes(const uint8_t *rule, size_t rule_length,
                                        const uint8_t *record, size_t record_length,
                                        const uint8_t *slip, size_t slip_length);
+
+/* The house label book says what a label is to be called: "Evening, west hall" for EVENING_W. It is for people's eyes,
+ * and no verdict depends on it. A book has zero or more lines: a label in either case, one '=', 1 to 60 bytes of text
+ * without LF or '=', and LF, in byte order of the labels' capitals, without repeats.
+ *
+ * Finds the text for the label that has length bytes of the log from place on. Value: SCENE_LOG_IN_BOOK if the book
+ * lists the label; *start is then the place of its text in the book, and *size the number of its bytes. Otherwise
+ * SCENE_LOG_IN_LOG, and they are place and length. The text has 1 byte at least, and no byte 0 behind it. Refused with
+ * 27 for a book outside its form, wherever the fault stands, and then with 13 for a piece that is not wholly inside the
+ * log, or is no label; *start and *size then stay as they were. Any place and length are taken. */
+SCENE_LOG_CALL SCENE_LOG_NOT_NULL(7, 8)
+scene_log_answer scene_log_label_text(const uint8_t *book, size_t book_length, const uint8_t *log, size_t log_length,
+                                      size_t place, size_t length, size_t *start, size_t *size);
 
 /* Value: the composition of two sets of relations; the converses of a set's members. Refused with 14 where a set is above 63. */
 SCENE_LOG_CALL scene_log_answer scene_log_compose(uint32_t first, uint32_t second);

@@ -89,11 +89,12 @@ build() { # PROGRAM..
     touch -c "${missing[@]/#/$stamps/}"
 }
 
-# Runs a program that turns a typed rule into a rule file, or a rule file into text. What it prints is left in the room
-# as `made`. A refusal prints nothing, and says R and a number on standard error: `refused` is this number, or empty.
+# Runs a program that turns a typed rule into a rule file, a rule file into text, or a label into its text in the file
+# `book` of the room. It runs in the room, and FILE is one there. What it prints is left there as `made`. A refusal
+# prints nothing, and says R and a number on standard error: `refused` is this number, or empty.
 turn() { # PROGRAM FILE
     refused=''
-    if ! "$bin/$1" <"$2" >"$room/made" 2>"$room/said"; then
+    if ! (cd "$room" && "$bin/$1" <"$2" >made 2>said); then
         cat "$room/said" >&2
         trouble "$1 ended before its time"
     elif [ ! -s "$room/made" ] && [[ $(cat "$room/said") =~ ^R([0-9]+)$ ]]; then
@@ -161,7 +162,7 @@ take_from() { # FILE PROGRAM..
     fi
     build "$@" ${typed:+rule_from_text}
     if [ -n "$typed" ]; then
-        turn rule_from_text "$room/given"
+        turn rule_from_text given
         [ -n "$refused" ] || cp "$room/made" "$room/rule.rul" || trouble "there is no room for temporary files"
     elif [ -e "$room/given" ]; then
         head -c 600 "$room/given" >"$room/rule.rul" || trouble "there is no room for temporary files"
@@ -178,7 +179,7 @@ take_text() {
         cat -vT "$room/given" | awk 1 >"$room/text"
     elif [ -e "$room/rule.rul" ]; then
         build text_from_rule
-        turn text_from_rule "$room/rule.rul"
+        turn text_from_rule rule.rul
         [ -n "$refused" ] || awk 1 "$room/made" >"$room/text"
     fi || trouble "there is no room for temporary files"
 }

@@ -98,9 +98,36 @@ static void try_answers(void) {
     EXPECT(SCENE_LOG_REFUSAL(scene_log_first_slip(NULL, 0, OF(record), OF(slip))) == SCENE_LOG_RULE_ENDS_EARLY);
     answer = scene_log_first_slip(OF(with_slips), OF(record), OF(slip));
     EXPECT(!SCENE_LOG_REFUSED(answer) && SCENE_LOG_VALUE(answer) == 0 && slip[0] == UNUSED);
-    for (number = 1; number <= 26; number++)
+    for (number = 1; number <= 27; number++)
         EXPECT(strcmp(scene_log_refusal_text(number), scene_log_refusal_text(0)) != 0);
-    EXPECT(scene_log_refusal_text(27) == scene_log_refusal_text(0) && scene_log_refusal_text(65536) == scene_log_refusal_text(0));
+    EXPECT(scene_log_refusal_text(28) == scene_log_refusal_text(0) && scene_log_refusal_text(65536) == scene_log_refusal_text(0));
+}
+
+/* ---- the label book */
+
+/* The text for a piece of a log, with what start and size are then; both are 77 before. */
+static scene_log_answer text_for(const char *book, const char *log, size_t place, size_t length, size_t *start, size_t *size) {
+    *start = *size = 77;
+    return scene_log_label_text((const uint8_t *)book, strlen(book), (const uint8_t *)log, strlen(log), place, length, start, size);
+}
+
+static void try_book(void) {
+    static const char book[] = "EVENING=Evening, all\nevening_w=Evening, west hall\n";
+    size_t start, size;
+    scene_log_answer answer = text_for(book, "B 7 Evening_W\n", 4, 9, &start, &size);
+    EXPECT(answer.number == SCENE_LOG_IN_BOOK && start == 31 && size == 18 && memcmp(book + start, "Evening, west hall", size) == 0);
+    answer = text_for(book, "B 7 EVEN\n", 4, 4, &start, &size);
+    EXPECT(answer.number == SCENE_LOG_IN_LOG && start == 4 && size == 4);
+    answer = scene_log_label_text(NULL, 0, (const uint8_t *)"A", 1, 0, 1, &start, &size);
+    EXPECT(answer.number == SCENE_LOG_IN_LOG && start == 0 && size == 1);
+    answer = text_for("A=x=y\n", "B 7 A\n", 4, 0, &start, &size);
+    EXPECT(SCENE_LOG_REFUSAL(answer) == SCENE_LOG_NO_BOOK && SCENE_LOG_VALUE(answer) == 0 && start == 77 && size == 77);
+    answer = text_for(book, "B 7 A\n", 4, 2, &start, &size);
+    EXPECT(SCENE_LOG_REFUSAL(answer) == SCENE_LOG_LINE_LABEL && start == 77 && size == 77);
+    answer = text_for(book, "B 7 A\n", SIZE_MAX, 2, &start, &size);
+    EXPECT(SCENE_LOG_REFUSAL(answer) == SCENE_LOG_LINE_LABEL && start == 77 && size == 77);
+    answer = scene_log_label_text(NULL, 0, NULL, 0, 0, 0, &start, &size);
+    EXPECT(SCENE_LOG_REFUSAL(answer) == SCENE_LOG_LINE_LABEL);
 }
 
 /* ---- the layouts */
@@ -433,6 +460,7 @@ int main(int count, char **arguments) {
     try_layouts();
     try_modes();
     try_letters();
+    try_book();
     try_typed_rules();
     if (count == 1)
         try_stack();

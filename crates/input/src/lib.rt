@@ -1,7 +1,7 @@
 // Reading for the programs: the bytes of a file or of standard input, and whether a read failed.
 //
-// `fill` reads until a buffer is full, the input ends or a read fails, and tells the last two apart. `read_rule` reads the rule file,
-// and `complain` says on standard error that a read failed.
+// `fill` reads until a buffer is full, the input ends or a read fails, and tells the last two apart. `read_file` reads a file,
+// `read_rule` the rule file, and `complain` says on standard error that a read failed.
 ghost use mathlib.Core.Path.{_≡_};
 ghost use lib.ListN.{length};
 ghost use Rattle.input.specs.Filled.{Fills, cameOf, Brings};
@@ -58,17 +58,24 @@ pub fn fill(fd: i32, buf: &mut [u8]) -> Filled
     Filled::Bytes(done)
 }
 
-// Puts the first bytes of the file rule.rul at the start of the buffer. One that can't be opened counts as no bytes.
-pub fn read_rule(buf: &mut [u8]) -> Filled
+// Puts the first bytes of the file with a name at the start of the buffer. One that can't be opened counts as no bytes.
+pub fn read_file(name: &[u8], buf: &mut [u8]) -> Filled
     ensures { λ a. ⌜ Fills a (now (buf .exit)) ⌝ }
 {
-    let fd = os::open_read(b"rule.rul");
+    let fd = os::open_read(name);
     if fd < 0 {
         return Filled::Bytes(0);
     }
     let a = fill(fd, buf);
     libc::close(fd);
     a
+}
+
+// Puts the first bytes of the file rule.rul at the start of the buffer, as `read_file` does.
+pub fn read_rule(buf: &mut [u8]) -> Filled
+    ensures { λ a. ⌜ Fills a (now (buf .exit)) ⌝ }
+{
+    read_file(b"rule.rul", buf)
 }
 
 // Says on standard error that a read failed, and why, if one did; the name is that of the program and of what it reads.

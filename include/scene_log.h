@@ -158,7 +158,7 @@ enum scene_log_refusal {
     SCENE_LOG_NO_TALLY = 24,
     SCENE_LOG_RULE_GRAMMAR = 25,
     SCENE_LOG_RULE_NO_SLIPS = 26,
-    SCENE_LOG_NO_BOOK = 27
+    SCENE_LOG_BOOK_FORM = 27
 };
 
 /* The relations between two different finished runs; a set is a sum of them, 0 to 63. */
@@ -216,8 +216,7 @@ static inline const char *scene_log_refusal_text(uint32_t refusal) {
         "the tally's counts are not the record's, or its failing lines exceed its lines",
         "the typed rule is outside the grammar or longer than 4,096 bytes",
         "the rule is not a \"not\" over one to four \"some\" over a part without \"some\"",
-        "the book is outside its form: each line is a label, one = and 1 to 60 bytes of text, ended by LF, and the lines "
-        "are in byte order of the labels' capitals, without repeats",
+        "the book is outside its form: a label, one = and 1 to 60 bytes of text a line, in order of capitals, no repeats",
     };
     return texts[refusal < sizeof texts / sizeof *texts ? refusal : 0];
 }

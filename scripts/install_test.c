@@ -121,7 +121,7 @@ static void try_book(void) {
     answer = scene_log_label_text(NULL, 0, (const uint8_t *)"A", 1, 0, 1, &start, &size);
     EXPECT(answer.number == SCENE_LOG_IN_LOG && start == 0 && size == 1);
     answer = text_for("A=x=y\n", "B 7 A\n", 4, 0, &start, &size);
-    EXPECT(SCENE_LOG_REFUSAL(answer) == SCENE_LOG_NO_BOOK && SCENE_LOG_VALUE(answer) == 0 && start == 77 && size == 77);
+    EXPECT(SCENE_LOG_REFUSAL(answer) == SCENE_LOG_BOOK_FORM && SCENE_LOG_VALUE(answer) == 0 && start == 77 && size == 77);
     answer = text_for(book, "B 7 A\n", 4, 2, &start, &size);
     EXPECT(SCENE_LOG_REFUSAL(answer) == SCENE_LOG_LINE_LABEL && start == 77 && size == 77);
     answer = text_for(book, "B 7 A\n", SIZE_MAX, 2, &start, &size);

@@ -3,7 +3,7 @@
 
 use crate::logs::MAX_RUNS;
 use crate::table::{seconds, short, Number, Row};
-use crate::{layouts, modes, reading, relating, slips, typed};
+use crate::{book, layouts, modes, reading, relating, slips, typed};
 use Limit::{AtLeast, AtMost, NoneDown, NoneUp};
 
 /// The whole-log call and the single-line call, as multiples of the whole-log call with the two-node rule; and the single-line
@@ -69,7 +69,7 @@ fn unlimited((what, limit, number, form): Asked) -> Asked {
 }
 
 /// Prints a line for each requirement, over the rows of full logs, of reading, of typed rules, of slips, of both
-/// layouts, of both modes and of relating two runs. Answers whether none failed.
+/// layouts, of both modes, of the label book and of relating two runs. Answers whether none failed.
 pub fn print_checks(
     rows: &[Row],
     reading: &reading::Rows,
@@ -77,6 +77,7 @@ pub fn print_checks(
     slips: &[slips::Row],
     layouts: &[layouts::Row],
     modes: &modes::Rows,
+    book: &[book::Row],
     relating: &[relating::Row],
 ) -> bool {
     println!("\n## Required\n");
@@ -93,6 +94,7 @@ pub fn print_checks(
         slips::print_checks(slips),
         layouts::print_checks(layouts),
         modes.print_checks(),
+        book::print_checks(book),
         relating::print_checks(relating),
     ];
     passed.iter().all(|passed| *passed)

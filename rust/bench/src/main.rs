@@ -2,13 +2,14 @@
 //!
 //! `cargo run --release -p bench` prints a table for each group of rules, the noise, and whether the times are as required.
 //! `--quick` stops at 32 runs; `--group NAME` measures one group: reading, figure1, section3, worst, typed, slips,
-//! layouts, modes or earlier. SCENE_LOG_EARLIER in the environment names the earlier library of the last of them.
+//! layouts, modes, book or earlier. SCENE_LOG_EARLIER in the environment names the earlier library of the last of them.
 //! SCENE_LOG_EARLIER_NO_MODE is set where the calls of that one take a layout of a work area and no mode, and
 //! SCENE_LOG_EARLIER_NO_LAYOUT where they take neither.
 //! Times differ between machines; the ratios much less. `docs/PERFORMANCE.md` says what each column is.
 
 #[cfg(test)]
 mod agree;
+mod book;
 mod checks;
 #[cfg(test)]
 mod deep;
@@ -66,7 +67,7 @@ fn all_kinds(property: usize) -> [Measured; 4] {
 }
 
 /// The names of the groups, as `--group` takes them, and their headings.
-const GROUPS: [(&str, &str); 9] = [
+const GROUPS: [(&str, &str); 10] = [
     (READING, "Reading"),
     ("figure1", "The properties of figure 1"),
     ("section3", "The properties of section 3"),
@@ -75,6 +76,7 @@ const GROUPS: [(&str, &str); 9] = [
     (SLIPS, "Slips"),
     (LAYOUTS, "Both layouts"),
     (MODES, "Both modes"),
+    (BOOK, "The label book"),
     (EARLIER, "Beside an earlier library"),
 ];
 
@@ -82,11 +84,13 @@ const GROUPS: [(&str, &str); 9] = [
 const READING: &str = "reading";
 
 /// The groups with tables of their own: that which has texts instead of logs, that of the runs that break a rule, those
-/// of both layouts of a work area and of both modes, and that which holds this library against an earlier one.
+/// of both layouts of a work area and of both modes, that of the label book, and that which holds this library against
+/// an earlier one.
 const TYPED: &str = "typed";
 const SLIPS: &str = "slips";
 const LAYOUTS: &str = "layouts";
 const MODES: &str = "modes";
+const BOOK: &str = "book";
 const EARLIER: &str = "earlier";
 
 fn group(name: &str) -> Vec<Measured> {
@@ -167,7 +171,8 @@ fn options() -> Result<Options, String> {
         }
     }
     if options.groups.is_empty() {
-        return Err("the groups are reading, figure1, section3, worst, typed, slips, layouts, modes and earlier".into());
+        let names = "reading, figure1, section3, worst, typed, slips, layouts, modes, book and earlier";
+        return Err(format!("the groups are {names}"));
     }
     if options.groups.iter().any(|(name, _)| *name == EARLIER) {
         options.libraries = Libraries::named()?;
@@ -186,7 +191,7 @@ fn main() -> ExitCode {
     let (rule, log) = (two_nodes().file, interleaved(MAX_RUNS, &LABELS));
     let mut noise = Noise::default();
     noise.measure("beginning", &rule, &log);
-    let is_own = |name: &str| [TYPED, SLIPS, LAYOUTS, MODES, EARLIER].contains(&name);
+    let is_own = |name: &str| [TYPED, SLIPS, LAYOUTS, MODES, BOOK, EARLIER].contains(&name);
     let (own, groups): (Vec<_>, Vec<_>) = groups.into_iter().partition(|(name, _)| is_own(name));
     let title_of = |wanted: &str| own.iter().find(|(name, _)| *name == wanted).map(|(_, title)| *title);
     let groups: Vec<_> = groups.iter().map(|(name, title)| (*name, title, group(name))).collect();
@@ -211,12 +216,13 @@ fn main() -> ExitCode {
     let slips = title_of(SLIPS).map(|title| slips::measured(title, longest)).unwrap_or_default();
     let layouts = title_of(LAYOUTS).map(|title| layouts::measured(title, sizes)).unwrap_or_default();
     let modes = title_of(MODES).map(|title| modes::measured(title, longest)).unwrap_or_default();
+    let book = title_of(BOOK).map(book::measured).unwrap_or_default();
     let relating = title_of(EARLIER).map(|title| relating::measured(title, libraries.as_ref())).unwrap_or_default();
     if let Some(libraries) = &libraries {
         reading.measure_earlier(libraries);
     }
     noise.measure("end", &rule, &log);
     print_noise(&noise);
-    let passed = checks::print_checks(&rows, &reading, typed.as_ref(), &slips, &layouts, &modes, &relating);
+    let passed = checks::print_checks(&rows, &reading, typed.as_ref(), &slips, &layouts, &modes, &book, &relating);
     if passed { ExitCode::SUCCESS } else { ExitCode::FAILURE }
 }

@@ -12,9 +12,10 @@
 //! `texts` has cases of its own for rules typed by hand: `text_case(seed)` for reading a
 //! text, `rule_case(seed)` for writing one. `slips` has those for the runs that break a
 //! rule: `slip_case(seed)`. `positions` has those for where two runs start and finish:
-//! `position_case(seed)`.
+//! `position_case(seed)`. `books` has those for the label book: `book_case(seed)`.
 
 pub mod areas;
+pub mod books;
 pub mod letters;
 pub mod logs;
 pub mod positions;

@@ -91,6 +91,16 @@ extern "C" {
         slip: *const u8,
         slip_length: usize,
     ) -> u32;
+    pub fn scene_log_label_text(
+        book: *const u8,
+        book_length: usize,
+        log: *const u8,
+        log_length: usize,
+        place: usize,
+        length: usize,
+        start: *mut usize,
+        size: *mut usize,
+    ) -> u32;
     pub fn scene_log_compose(first: u32, second: u32) -> u32;
     pub fn scene_log_converse(set: u32) -> u32;
     pub fn scene_log_fnv1a(bytes: *const u8, length: usize) -> u32;

@@ -87,7 +87,19 @@
 //! assert_eq!(slip.runs(), [0, 1]);
 //! # Ok::<(), scene_log::Refusal>(())
 //! ```
+//!
+//! Clients may read a text in place of a label, from a book of the house:
+//!
+//! ```
+//! use scene_log::{label_text, LabelText};
+//!
+//! let book = b"EVENING=Evening, main hall\nEVENING_W=Evening, west hall\n";
+//! let log = b"B 7 evening_w\nE 7\n";
+//! assert_eq!(label_text(book, log, 4, 9)?, LabelText::Book(b"Evening, west hall"));
+//! # Ok::<(), scene_log::Refusal>(())
+//! ```
 
+mod book;
 mod c;
 mod layout;
 mod mode;
@@ -96,6 +108,7 @@ mod relation;
 mod slip;
 mod typed;
 
+pub use book::{label_text, LabelText};
 pub use layout::Layout;
 pub use mode::Mode;
 pub use refusal::{LogRefused, Refusal};

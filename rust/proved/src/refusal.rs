@@ -43,12 +43,13 @@ pub enum Refusal {
     NoTally = 24,
     RuleGrammar = 25,
     RuleNoSlips = 26,
+    BookForm = 27,
 }
 
 use Refusal::*;
 
 /// All refusals, in the order of their numbers, each with its sentence.
-const ALL: [(Refusal, &str); 26] = [
+const ALL: [(Refusal, &str); 27] = [
     (RuleEndsEarly, "the rule file ends before the next part is whole"),
     (RuleMark, "the rule file's mark is not RUL"),
     (RuleVersion, "the rule file's version is not 1"),
@@ -75,10 +76,11 @@ const ALL: [(Refusal, &str); 26] = [
     (NoTally, "the tally's counts are not the record's, or its failing lines exceed its lines"),
     (RuleGrammar, "the typed rule is outside the grammar or longer than 4,096 bytes"),
     (RuleNoSlips, "the rule is not a \"not\" over one to four \"some\" over a part without \"some\""),
+    (BookForm, "the book is outside its form: a label, one = and 1 to 60 bytes of text a line, in order of capitals, no repeats"),
 ];
 
 impl Refusal {
-    /// The number on the list, 1 to 26.
+    /// The number on the list, 1 to 27.
     pub fn number(self) -> u8 {
         self as u8
     }
@@ -133,7 +135,7 @@ mod tests {
     fn every_number_names_its_refusal() {
         for number in 0..=u8::MAX {
             let named = Refusal::from_number(number).map(Refusal::number);
-            assert_eq!(named, (1..=26).contains(&number).then_some(number));
+            assert_eq!(named, (1..=27).contains(&number).then_some(number));
         }
     }
 }

@@ -5,6 +5,7 @@
 //! one of these two and compute the answer afresh.
 //!
 //! - `label`: labels as they are written in either case, and their capitals.
+//! - `book`: the texts that a label book lists for labels (27).
 //! - `line`: what one line says, and how lines are cut from a log (11, 12, 13).
 //! - `trace`: the accepted lines, what a new line meets there (15 to 19), and the runs.
 //! - `rule`: reading a rule file (1 to 10).
@@ -18,6 +19,7 @@
 //! - `slip`: the runs that break a rule, and which rules have them (26).
 //! - `typed`: a rule file from a rule typed by hand, and its text (25).
 
+pub mod book;
 pub mod calls;
 pub mod formula;
 pub mod label;
@@ -35,7 +37,7 @@ pub mod typed;
 pub use layout::Layout;
 pub use reading::Mode;
 
-/// A number on the paper's list of refusals, 1 to 26.
+/// A number on the paper's list of refusals, 1 to 27.
 pub type Refusal = u8;
 
 /// "At most 128 runs and 64 labels".

@@ -1,5 +1,6 @@
 //! The calls: refusals in the paper's order, answers, and what each buffer holds after.
 
+use reference::book::Piece;
 use reference::calls::*;
 use reference::record::{pair_bytes, record_of, Record};
 use reference::trace::accepted_lines;
@@ -543,5 +544,50 @@ fn a_record_with_a_small_letter_is_refused_with_21() {
         assert_eq!((relation_between(&sound, 0, 1), relation_between(&small, 0, 1)), (Ok(16), Err(21)));
         assert_eq!(slip_refusals(&p1(), &sound, 4, &[0, 1]), (None, None));
         assert_eq!(slip_refusals(&p1(), &small, 4, &[0, 1]), (Some(21), Some(21)));
+    }
+}
+
+/// "Clients read "Evening, west hall" and not EVENING_W."
+#[test]
+fn a_listed_label_has_the_text_of_the_book_and_another_its_bytes_in_the_log() {
+    let book = b"east=East wing\nEvening_w=Evening, west hall\nWEST=West wing\n";
+    let log = b"B 7 EVENING_W\nB 8 Evening\nB 9 evening_W\nE 9\nB 3 EAST\nB 4 west\n";
+    let text = |place: usize, length: usize| label_text(book, log, place, length).unwrap();
+    assert_eq!(text(4, 9), Piece::InBook { start: 25, length: 18 });
+    assert_eq!(text(4, 9).bytes(book, log), b"Evening, west hall");
+    assert_eq!(text(30, 9), Piece::InBook { start: 25, length: 18 });
+    assert_eq!((text(48, 4).bytes(book, log), text(57, 4).bytes(book, log)), (&b"East wing"[..], &b"West wing"[..]));
+    // Not listed, and as it stands: in small letters, too.
+    assert_eq!((text(18, 7), text(18, 7).bytes(book, log)), (Piece::InLog { start: 18, length: 7 }, &b"Evening"[..]));
+    // A part of a label, and a piece that is no label of a line.
+    assert_eq!(text(5, 8), Piece::InLog { start: 5, length: 8 });
+    assert_eq!(text(2, 1), Piece::InLog { start: 2, length: 1 });
+    // In no book is anything listed.
+    assert_eq!(label_text(b"", log, 4, 9), Ok(Piece::InLog { start: 4, length: 9 }));
+    // The log need not be one: here it is the book.
+    assert_eq!(label_text(book, book, 15, 9), Ok(Piece::InBook { start: 25, length: 18 }));
+}
+
+#[test]
+fn a_book_outside_its_form_comes_before_a_piece_that_is_no_label() {
+    let log = b"B 7 WEST\n";
+    let pieces = [(4, 4, true), (4, 0, false), (4, 5, false), (3, 5, false), (9, 1, false), (0, usize::MAX, false)];
+    let books: [(&[u8], bool); 8] = [
+        (b"", true),
+        (b"WEST=West wing\n", true),
+        (b"A=x\nwest=\r\0\xff\n", true),
+        (b"WEST=West wing", false),
+        (b"WEST\n", false),
+        // A fault behind the line that lists the label, and one before it.
+        (b"WEST=West wing\nEAST=East wing\n", false),
+        (b"WEST=West wing\nX==\n", false),
+        (b"EAST=\nWEST=West wing\n", false),
+    ];
+    for (book, is_book) in books {
+        for (place, length, is_label) in pieces {
+            let refusal = label_text(book, log, place, length).err();
+            let expected = if is_book { (!is_label).then_some(13) } else { Some(27) };
+            assert_eq!(refusal, expected, "{} {place} {length}", book.escape_ascii());
+        }
     }
 }

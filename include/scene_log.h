@@ -336,7 +336,8 @@ scene_log_answer scene_log_slip_passes(const uint8_t *rule, size_t rule_length,
  * lists the label; *start is then the place of its text in the book, and *size the number of its bytes. Otherwise
  * SCENE_LOG_IN_LOG, and they are place and length. The text has 1 byte at least, and no byte 0 behind it. Refused with
  * 27 for a book outside its form, wherever the fault stands, and then with 13 for a piece that is not wholly inside the
- * log, or is no label; *start and *size then stay as they were. Any place and length are taken. */
+ * log, or is no label; *start and *size then stay as they were. Any place and length are taken. start and size point to
+ * two different numbers, and neither lies in the book or the log. */
 SCENE_LOG_CALL SCENE_LOG_NOT_NULL(7, 8)
 scene_log_answer scene_log_label_text(const uint8_t *book, size_t book_length, const uint8_t *log, size_t log_length,
                                       size_t place, size_t length, size_t *start, size_t *size);

@@ -1,4 +1,5 @@
--- Worked cases of the label book: some books, some pieces, and what is answered. Where a text stands is counted by hand.
+-- Worked cases of the label book: some books, some pieces, and what is answered. Where a text stands is counted by
+-- hand.
 use Prim.Native.Nat.{ℕ}
 use mathlib.Core.Path.{_≡_}
 use mathlib.Core.List.{List, [], _∷_, _++_}
@@ -37,6 +38,9 @@ pub record BookCases : Type 0 where
   -- "otherwise the label's bytes as they stand in the log"; an id's digits have a label's form too
   pub not-listed : inHouse (bytes "B 7 TEST\n") 4 4 ≡ InLog 4 8
   pub digits : inHouse (bytes "B 123\n") 2 3 ≡ InLog 2 5
+  -- a piece inside a word; a label to its last byte
+  pub in-word : inHouse (bytes "B 7 TEST\n") 4 3 ≡ InLog 4 7
+  pub last-differs : inHouse (bytes "B 7 EVENING_X\n") 4 9 ≡ InLog 4 13
   pub no-lines : pieceFor [] (bytes "B 7 TEST\n") 4 4 ≡ InLog 4 8
   -- "13 for a piece not wholly inside the log or without a label's form"
   pub no-bytes : inHouse (bytes "B 7 TEST\n") 4 0 ≡ Refused 13
@@ -60,11 +64,13 @@ pub record BookCases : Type 0 where
   pub empty-line : forA (bytes "A=x\n\n") ≡ Refused 27
   pub no-label : forA (bytes "=x\n") ≡ Refused 27
   pub wrong-label : forA (bytes "A B=x\n") ≡ Refused 27
+  pub minus : forA (bytes "A-B=x\n") ≡ Refused 27
   pub label-of-24 : forA (longLabel 24) ≡ InLog 4 5
   pub label-of-25 : forA (longLabel 25) ≡ Refused 27
-  -- any other byte may stand in a text: CR, NUL, a space, a byte above 127
-  pub any-byte : forA (bytes "A=" ++ (13 ∷ 0 ∷ 32 ∷ 228 ∷ 10 ∷ [])) ≡ InBook 2 6
-  -- "in byte order of the labels' capitals, without repeats": a label before its longer ones, digits, letters, underscore
+  -- any other byte may stand in a text, at its ends too: a space, NUL, a quote, a byte above 127, CR
+  pub any-byte : forA (bytes "A=" ++ (32 ∷ 0 ∷ 34 ∷ 228 ∷ 13 ∷ 10 ∷ [])) ≡ InBook 2 7
+  -- "in byte order of the labels' capitals, without repeats": a label before its longer ones, digits, letters,
+  -- underscore
   pub in-order : forA (bytes "0=v\nA=w\nA0=x\nAA=y\nA_=z\nZ=t\n_=u\n") ≡ InBook 6 7
   pub by-capitals : forA (bytes "a=x\n_=y\n") ≡ InBook 2 3
   pub by-bytes : forA (bytes "_=y\na=x\n") ≡ Refused 27

@@ -21,7 +21,8 @@
 --   RecasedLog, RecasedRule, RecasedText   a log, a rule file, a text in another case      letter_case/specs/Recased
 --   Book b es           the bytes b are the label book with the lines es                  label_book/specs/Book
 --   LabelAt, MetPiece, TextOfBook, BytesOfLog   a piece of a log, where it is refused, and the text that it has
---   Places, Hands, Stands   the call that places a piece, and the twin that hands it back label_book/specs/Piece
+--   TellsPiece, Hands   the call that tells a piece by its place, and the one that hands it back
+--                                                                                         label_book/specs/Piece
 --   Lent, Beyond        a lent buffer; what stands behind the bytes that a call writes    report/specs/Calls
 --   Grammar.Says text t the text is inside the grammar of typed rules and says the tree t typed_grammar/specs/Grammar
 --   formulaSaid t       the formula that the tree says, each name the level of its exist  typed_grammar/specs/Formula

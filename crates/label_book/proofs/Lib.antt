@@ -8,3 +8,4 @@ pub mod Texts
 pub mod Written
 pub mod Meaning
 pub mod Answers
+pub mod OtherCase

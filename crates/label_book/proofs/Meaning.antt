@@ -18,9 +18,9 @@ use Rattle.label_book.specs.declared.Listing.{Listing}
 use Rattle.label_book.specs.declared.Listing.the-variants.{Text, Missing, NoBook}
 use Rattle.label_book.specs.declared.Piece.{Piece}
 use Rattle.label_book.specs.declared.Piece.the-variants.{InBook, InLog, Refused}
-use Rattle.label_book.specs.Book.{Entry, noEntry, bookBytes, RightEntry, Rising, Book, TextAt}
+use Rattle.label_book.specs.Book.{Entry, noEntry, bookBytes, RightEntry, LabelsRise, Book, TextAt}
 use Rattle.label_book.specs.Reading.{entriesFrom, risingFrom?, inOrder, bookOf, textFrom}
-use Rattle.label_book.specs.Piece.{pieceAt, LabelAt, MetPiece, no-book, no-label, TextOfBook, BytesOfLog, PieceMeans, labelAt?, pieceOf, pieceIn, pieceFor, Inside, Places}
+use Rattle.label_book.specs.Piece.{pieceAt, LabelAt, MetPiece, no-book, no-label, TextOfBook, BytesOfLog, PieceMeans, labelAt?, pieceOf, pieceIn, pieceFor, LiesInside, TellsPiece}
 use Rattle.label_book.proofs.Order.{rising-is}
 use Rattle.label_book.proofs.Texts.{never-no-book, text-missing, text-listed}
 use Rattle.label_book.proofs.Written.{entries-written, text-some, text-within}
@@ -30,7 +30,7 @@ module _ (b : List ℕ) (es : List Entry) where
   abbrev EachRight : Type 0
   EachRight = (i : ℕ) → i < length es → RightEntry (getD es i noEntry)
 
-  rises : EachRight → (risingFrom? [] es ≡ true) ↔ Rising es
+  rises : EachRight → (risingFrom? [] es ≡ true) ↔ LabelsRise es
   rises r = rising-is es (λ i h. r i h .label .some)
 
   made : entriesFrom 0 b ≡ some es → risingFrom? [] es ≡ true → Book b es
@@ -152,7 +152,7 @@ module _ (b log : List ℕ) (p n : ℕ) where
       let r = k .right i (rw (t .lines) (omega (arith, length-append (t .before) (t .entry ∷ t .after)))) in
       subst RightEntry (ap (λ (xs : List Entry). getD xs i noEntry) (t .lines) ∙ getD-append-seam (t .before) (t .entry) (t .after) noEntry) r
 
-  said-inside : (r : Piece) → Said r → Inside b log r
+  said-inside : (r : Piece) → Said r → LiesInside b log r
   said-inside (InBook start end) w =
       let t = w .text in (
         text-some (w .entries) (pieceAt log p n) start end t (right-text (w .entries) (pieceAt log p n) start end (w .is-book) t .some),
@@ -170,10 +170,10 @@ module _ (b log : List ℕ) (p n : ℕ) where
   said-inside (Refused c) w = tt
 
   -- a call that answers the piece keeps its whole promise
-  pub places : (r : Piece) → r ≡ pieceFor b log p n → Places b log p n r
+  pub places : (r : Piece) → r ≡ pieceFor b log p n → TellsPiece b log p n r
   places r e =
       record {
         answer = e;
         meaning = subst (PieceMeans b log p n) (sym e) piece-means;
-        inside = subst (Inside b log) (sym e) (said-inside (pieceFor b log p n) answered-said);
+        inside = subst (LiesInside b log) (sym e) (said-inside (pieceFor b log p n) answered-said);
       }

@@ -12,7 +12,7 @@ use Rattle.lists.proofs.Tells.{tell-no}
 use Rattle.lists.proofs.Lists.{same-eq, same-refl, same-not}
 use Rattle.labels.specs.Label.{capitals}
 use Rattle.label_book.specs.declared.Listing.the-variants.{Text, Missing, NoBook}
-use Rattle.label_book.specs.Book.{Entry, noEntry, entryBytes, bookBytes, Before, capitalsAt, Rising, TextAt, NotListed}
+use Rattle.label_book.specs.Book.{Entry, noEntry, entryBytes, bookBytes, InByteOrder, capitalsAt, LabelsRise, TextAt, NotListed}
 use Rattle.label_book.specs.Reading.{textFrom}
 use Rattle.label_book.proofs.Order.{never-before-itself}
 
@@ -108,12 +108,12 @@ module _ (l : List ℕ) where
       ∙ text-found (at + length (entryBytes e)) before entry after (λ i h. n (suc i) (omega arith)) p)
 
 -- the lines before one have other labels
-others-before : (before : List Entry) (entry : Entry) (after : List Entry) → Rising (before ++ (entry ∷ after))
+others-before : (before : List Entry) (entry : Entry) (after : List Entry) → LabelsRise (before ++ (entry ∷ after))
     → (i : ℕ) → i < length before → capitalsAt before i ≢ capitals (entry .label)
 others-before before entry after r i h p =
     let k = length-append before (entry ∷ after) in
     let b = r i (length before) h (omega arith) in
-    let c : Before (capitalsAt before i) (capitals (entry .label)) =
+    let c : InByteOrder (capitalsAt before i) (capitals (entry .label)) =
     rw (List·getD-append before (entry ∷ after) noEntry i h, getD-append-seam before entry after noEntry) at b
     in
     never-before-itself (capitals (entry .label)) (rw p at c)
@@ -129,7 +129,7 @@ never-no-book (e ∷ es) l at q =
 pub text-missing : (es : List Entry) (l : List ℕ) → (textFrom 0 es l ≡ Missing) ↔ NotListed es l
 text-missing es l = (missing-unlisted l 0 es, unlisted-missing l 0 es)
 
-pub text-listed : (es : List Entry) (l : List ℕ) → Rising es
+pub text-listed : (es : List Entry) (l : List ℕ) → LabelsRise es
     → (start end : ℕ) → (textFrom 0 es l ≡ Text start end) ↔ TextAt es l start end
 text-listed es l r start end = (to, from)
   where

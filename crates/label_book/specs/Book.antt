@@ -33,23 +33,29 @@ pub record RightEntry (e : Entry) : Type 0 where
   pub bytes : EachByte (λ b. (b ≢ 10) × (b ≢ 61)) (e .text)
 
 -- byte order: the first byte that differs decides, and a byte string comes before a longer one that begins with it
-pub data Before (s t : List ℕ) : Type 0 where
-  shorter : (b : ℕ) (more : List ℕ) → t ≡ s ++ (b ∷ more) → Before s t
-  smaller : (front : List ℕ) (b c : ℕ) (u v : List ℕ) → s ≡ front ++ (b ∷ u) → t ≡ front ++ (c ∷ v) → b < c → Before s t
+pub data InByteOrder (s t : List ℕ) : Type 0 where
+  shorter : (b : ℕ) (more : List ℕ) → t ≡ s ++ (b ∷ more) → InByteOrder s t
+  smaller : (front : List ℕ) (b c : ℕ) (u v : List ℕ) → s ≡ front ++ (b ∷ u) → t ≡ front ++ (c ∷ v) → b < c → InByteOrder s t
 
 -- the capitals of the label of line i
 abbrev pub capitalsAt : List Entry → ℕ → List ℕ
 capitalsAt es i = capitals (getD es i noEntry .label)
 
 -- "in byte order of the labels' capitals, without repeats": no byte string is before itself
-abbrev pub Rising : List Entry → Type 0
-Rising es = (i j : ℕ) → i < j → j < length es → Before (capitalsAt es i) (capitalsAt es j)
+abbrev pub LabelsRise : List Entry → Type 0
+LabelsRise es = (i j : ℕ) → i < j → j < length es → InByteOrder (capitalsAt es i) (capitalsAt es j)
 
 -- the bytes b are the book with these lines
 pub record Book (b : List ℕ) (es : List Entry) : Type 0 where
   pub lines : b ≡ bookBytes es
   pub right : (i : ℕ) → i < length es → RightEntry (getD es i noEntry)
-  pub rising : Rising es
+  pub rising : LabelsRise es
+
+-- the same lines but for the case of their labels
+abbrev pub SameButCase : List Entry → List Entry → Type 0
+SameButCase es fs =
+    (length es ≡ length fs)
+    × ((i : ℕ) → i < length es → (capitalsAt es i ≡ capitalsAt fs i) × (getD es i noEntry .text ≡ getD fs i noEntry .text))
 
 -- "Labels compare as in F-7": the label l is that of a line, whose text stands behind the lines before it, its label and the sign
 pub record TextAt (es : List Entry) (l : List ℕ) (start end : ℕ) : Type 0 where

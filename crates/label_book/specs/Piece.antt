@@ -3,7 +3,7 @@
 use Prim.Native.Nat.{ℕ, _+_, _-_, _<_, _≤_}
 use mathlib.Core.Path.{_≡_}
 use mathlib.Core.Logic.{_↔_}
-use mathlib.Core.Bool.{Bool, true, false, _&&_, cond}
+use mathlib.Core.Bool.{Bool, _&&_, cond}
 use mathlib.Core.Option.{Option, none, some}
 use mathlib.Core.List.{List, []}
 use lib.Dec.{leb}
@@ -64,10 +64,17 @@ labelAt? log p n = leb (p + n) (length log) && labelForm? (capitals (pieceAt log
 abbrev pub bytesInside : List ℕ → ℕ → ℕ → List ℕ
 bytesInside log p n = cond (leb (p + n) (length log)) (pieceAt log p n) []
 
+-- the piece of what the lines of a book have; they are a book already
 abbrev pub pieceOf : Listing → ℕ → ℕ → Piece
 pieceOf (Text start end) p n = InBook start end
 pieceOf Missing p n = InLog p (p + n)
 pieceOf NoBook p n = Refused 27
+
+-- the refusal where the piece is no label: 27 comes first
+abbrev pub withoutLabel : Listing → ℕ
+withoutLabel (Text start end) = 13
+withoutLabel Missing = 13
+withoutLabel NoBook = 27
 
 abbrev pub pieceIn : Option (List Entry) → List ℕ → ℕ → ℕ → Piece
 pieceIn none log p n = Refused 27
@@ -78,30 +85,32 @@ pieceFor book log p n = pieceIn (bookOf book) log p n
 
 -- ── the calls ──
 -- a piece is some bytes of the book or of the log
-abbrev pub Inside : List ℕ → List ℕ → Piece → Type 0
-Inside book log (InBook start end) = (start < end) × (end ≤ length book)
-Inside book log (InLog start end) = (start < end) × (end ≤ length log)
-Inside book log (Refused c) = Unit
+abbrev pub LiesInside : List ℕ → List ℕ → Piece → Type 0
+LiesInside book log (InBook start end) = (start < end) × (end ≤ length book)
+LiesInside book log (InLog start end) = (start < end) × (end ≤ length log)
+LiesInside book log (Refused c) = Unit
 
 -- the twin: "the piece is stated by its place"
-pub record Places (book log : List ℕ) (p n : ℕ) (r : Piece) : Type 0 where
+pub record TellsPiece (book log : List ℕ) (p n : ℕ) (r : Piece) : Type 0 where
   pub answer : r ≡ pieceFor book log p n
   pub meaning : PieceMeans book log p n r
-  pub inside : Inside book log r
+  pub inside : LiesInside book log r
 
 -- a part of a lent slice: in the slice's own memory, `start` bytes behind where the slice stands. "Nothing is copied"
-pub record PartOf (s : RefT (List ℕ)) (start end : ℕ) (r : RefT (List ℕ)) : Type 0 where
+pub record SliceOf (s : RefT (List ℕ)) (start end : ℕ) (r : RefT (List ℕ)) : Type 0 where
   pub block : r .ptr .0 ≡ s .ptr .0
   pub offset : r .ptr .1 ≡ start + s .ptr .1
   pub bytes : r .now ≡ take (end - start) (drop start (s .now))
 
--- the part that a piece is; where it is refused, no bytes of the log
-abbrev pub Stands : RefT (List ℕ) → RefT (List ℕ) → Piece → RefT (List ℕ) → Type 0
-Stands book log (InBook start end) r = PartOf book start end r
-Stands book log (InLog start end) r = PartOf log start end r
-Stands book log (Refused c) r = PartOf log 0 0 r
+-- the part that a piece is; where it is refused, no bytes. Where these stand the paper leaves open: at the front of the log
+abbrev pub StandsIn : RefT (List ℕ) → RefT (List ℕ) → Piece → RefT (List ℕ) → Type 0
+StandsIn book log (InBook start end) r = SliceOf book start end r
+StandsIn book log (InLog start end) r = SliceOf log start end r
+StandsIn book log (Refused c) r = SliceOf log 0 0 r
 
 -- what is handed back: the part where the twin says, "and is empty exactly when a twin call answers a refusal"
 pub record Hands (book log : RefT (List ℕ)) (p n : ℕ) (r : RefT (List ℕ)) : Type 0 where
-  pub stands : Stands book log (pieceFor (book .now) (log .now) p n) r
-  pub empty : (length (r .now) ≡ 0) ↔ ((c : ℕ) × (pieceFor (book .now) (log .now) p n ≡ Refused c))
+  pub piece : Piece
+  pub told : TellsPiece (book .now) (log .now) p n piece
+  pub stands : StandsIn book log piece r
+  pub empty : (length (r .now) ≡ 0) ↔ ((c : ℕ) × (piece ≡ Refused c))

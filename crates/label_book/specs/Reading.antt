@@ -73,7 +73,7 @@ before? [] (y ∷ t) = true
 before? (x ∷ s) [] = false
 before? (x ∷ s) (y ∷ t) = ltb x y || eqb x y && before? s t
 
--- each label is behind the one before it, the first behind `last`; no label has no bytes, so that all are behind those
+-- each label is behind the one before it, and the first behind `last`; every label has a byte, so each is behind no bytes
 abbrev pub risingFrom? : List ℕ → List Entry → Bool
 risingFrom? last [] = true
 risingFrom? last (e ∷ es) = before? (capitals last) (capitals (e .label)) && risingFrom? (e .label) es

@@ -1,21 +1,18 @@
 // The house label book: for a label of a log the text that the book lists for it, or the label as it stands in the log.
 //
 // `text_for` hands the text back where it stands, as a part of the book or of the log. `piece_for` is its twin: it answers where that part
-// stands, or the refusal for which `text_for` hands back no bytes. `look_up` reads a book once, from its front to its end. No verdict
+// stands, or the refusal for which `text_for` hands back no bytes. Behind both is one pass over the book, line by line. No verdict
 // depends on a book.
 ghost use mathlib.Core.Path.{_≡_};
 ghost use mathlib.Core.Bool.{cond};
-ghost use mathlib.Core.List.{[]};
-ghost use Prim.Native.Nat.{ℕ, _+_};
-ghost use lib.ListN.{length};
 ghost use Rattle.labels.specs.Label.{capitals};
 ghost use Rattle.label_book.specs.Reading.{fits?, span, lineOf, before?, firstOf, lookUp};
-ghost use Rattle.label_book.specs.Piece.{bytesInside, Places, Hands};
+ghost use Rattle.label_book.specs.Piece.{bytesInside, withoutLabel, TellsPiece, Hands};
 ghost use Rattle.label_book.specs.declared.Listing.the-variants.{Text, Missing};
 use labels::MAX_LABEL_BYTES;
 
 // The most bytes of a text: maxTextBytes of specs.
-pub const MAX_TEXT_BYTES: usize = 60;
+const MAX_TEXT_BYTES: usize = 60;
 
 // A line of a book: how many bytes its label has, and its text.
 enum Line {
@@ -24,7 +21,7 @@ enum Line {
 }
 
 // What a book has for a label: its text, from the first byte to past the last; or nothing; or the bytes are no book.
-pub enum Listing {
+enum Listing {
     Text(usize, usize),
     Missing,
     NoBook,
@@ -141,7 +138,7 @@ fn found_with(found: Listing, same: bool, start: usize, end: usize) -> Listing
 }
 
 // Where a book has the text of a label.
-pub fn look_up(book: &[u8], label: &[u8]) -> Listing
+fn look_up(book: &[u8], label: &[u8]) -> Listing
     ensures { λ r. ⌜ r ≡ lookUp (now (book .entry)) (now (label .entry)) ⌝ }
 {
     let mut found = Listing::Missing;
@@ -183,27 +180,32 @@ fn bytes_at<'a>(log: &'a [u8], place: usize, length: usize) -> &'a [u8]
     &log[place..end]
 }
 
+// The refusal where the piece is no label: the book comes before it.
+fn refusal_without_label(found: Listing) -> u8
+    ensures { λ c. ⌜ c ≡ withoutLabel found ⌝ }
+{
+    match found {
+        Listing::NoBook => return 27,
+        Listing::Text(_, _) => return 13,
+        Listing::Missing => return 13,
+    }
+}
+
 // Where the text of the label stands that has these bytes of the log, or why there is none.
 pub fn piece_for(book: &[u8], log: &[u8], place: usize, length: usize) -> Piece
-    ensures { λ r. ⌜ Places (now (book .entry)) (now (log .entry)) place length r ⌝ }
+    ensures { λ r. ⌜ TellsPiece (now (book .entry)) (now (log .entry)) place length r ⌝ }
 {
     let label = bytes_at(log, place, length);
     let found = look_up(book, label);
     let form = labels::is_label(label);
+    if !form {
+        let number = refusal_without_label(found);
+        return Piece::Refused(number);
+    }
     match found {
         Listing::NoBook => return Piece::Refused(27),
-        Listing::Text(start, end) => {
-            if form {
-                return Piece::InBook(start, end);
-            }
-            return Piece::Refused(13);
-        }
-        Listing::Missing => {
-            if form {
-                return Piece::InLog(place, place + length);
-            }
-            return Piece::Refused(13);
-        }
+        Listing::Text(start, end) => return Piece::InBook(start, end),
+        Listing::Missing => return Piece::InLog(place, place + length),
     }
 }
 

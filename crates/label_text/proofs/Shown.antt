@@ -12,7 +12,7 @@ use Rattle.input.specs.declared.Filled.the-variants.{Bytes, Failed}
 use Rattle.input.proofs.Answers.{counted}
 use Rattle.output.specs.declared.Written.{Written}
 use Rattle.output.specs.declared.Written.the-variants as Written
-use Rattle.label_book.specs.Piece.{pieceFor, Places, Stands, Hands}
+use Rattle.label_book.specs.Piece.{pieceFor, TellsPiece, StandsIn, Hands}
 use Rattle.label_book.specs.declared.Piece.{Piece}
 use Rattle.label_book.specs.declared.Piece.the-variants.{InBook, InLog, Refused}
 use Rattle.label_book.proofs.Meaning.{piece-means}
@@ -72,16 +72,17 @@ module _ (a b : Filled) (book label : List ℕ) (n m : ℕ) (e : a ≡ Bytes n) 
     unfolding textPrinted
     text-shown x y r p q w =
         prints textPrinted first-bytes-decide-text (r .now)
-        (stands (pieceFor (x .now) (y .now) 0 m) (w .stands)
+        (stands (w .piece) (w .stands)
+        ∙ (ap (pieceBytes (x .now) (y .now)) (w .told .answer)
         ∙ (ap₂ (λ (u v : List ℕ). pieceBytes u v (pieceFor u v 0 m)) p q
-        ∙ ap (pieceBytes (take n book) (take m label)) piece-is))
+        ∙ ap (pieceBytes (take n book) (take m label)) piece-is)))
       where
-        stands : (o : Piece) → Stands x y o r → r .now ≡ pieceBytes (x .now) (y .now) o
+        stands : (o : Piece) → StandsIn x y o r → r .now ≡ pieceBytes (x .now) (y .now) o
         stands (InBook i j) t = t .bytes
         stands (InLog i j) t = t .bytes
         stands (Refused c) t = t .bytes
 
-    pub refusal-shown : (o : Piece) (w : Written) (line : List ℕ) (end : ℕ) → Places (take n book) (take m label) 0 m o → errorOf w ≡ refusedLine o
+    pub refusal-shown : (o : Piece) (w : Written) (line : List ℕ) (end : ℕ) → TellsPiece (take n book) (take m label) 0 m o → errorOf w ≡ refusedLine o
         → PutsError w line end → PrintsRefusal a book b label (take end line)
     unfolding refusalPrinted
     refusal-shown o w line end p q d =

@@ -98,12 +98,18 @@ fn print_refusal(book: &[u8], a: Filled, label: &[u8], b: Filled, line: &[u8])
     io::write_all(STDERR_FILENO, line);
 }
 
-// Prints what is to be printed of n bytes of the book and m of the label, which is what the two reads brought.
-fn show<'a>(book: &'a [u8], a: Filled, n: usize, label: &'a [u8], b: Filled, m: usize)
+// Writes the text of n bytes of the book and m of the label, which is what the two reads brought.
+fn show_text<'a>(book: &'a [u8], a: Filled, n: usize, label: &'a [u8], b: Filled, m: usize)
     requires { ⌜ (a ≡ Bytes n) × (b ≡ Bytes m) × Fills a (now book) × Fills b (now label) × (n < bookRoom) ⌝ }
 {
     let text = label_book::text_for(&book[..n], &label[..m], 0, m);
     print_text(book, a, label, b, text);
+}
+
+// Writes the line of their refusal, if they are refused.
+fn show_refusal<'a>(book: &'a [u8], a: Filled, n: usize, label: &'a [u8], b: Filled, m: usize)
+    requires { ⌜ (a ≡ Bytes n) × (b ≡ Bytes m) × Fills a (now book) × Fills b (now label) × (n < bookRoom) ⌝ }
+{
     let p = label_book::piece_for(&book[..n], &label[..m], 0, m);
     let w = refusal_of(p);
     let mut line = [0u8; LINE_BYTES];
@@ -121,7 +127,8 @@ fn print<'a>(book: &'a [u8], a: Filled, label: &'a [u8], b: Filled)
             Filled::Failed => return,
             Filled::Bytes(m) => {
                 if n < BOOK_ROOM {
-                    show(book, a, n, label, b, m);
+                    show_text(book, a, n, label, b, m);
+                    show_refusal(book, a, n, label, b, m);
                 }
                 return;
             }

@@ -2,7 +2,8 @@
 // their FNV-1a hash.
 //
 // `fnv1a` hashes bytes. `capital_byte` says what a byte of a label counts as, and is all that knows of small letters. `is_label` says
-// which byte strings are labels as they are written, `label_from` makes a label of one: it holds the capitals.
+// which byte strings are labels as they are written, `same_label` whether two of them are one, and `label_from` makes a label of one: it
+// holds the capitals.
 // `no_labels` is the empty table, `find_label` looks a label up, `add_label` adds one at the place that the search found.
 ghost use mathlib.Core.Path.{_≡_};
 ghost use mathlib.Core.List.{[]};

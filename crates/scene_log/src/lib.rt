@@ -12,7 +12,7 @@ ghost use Rattle.labels.specs.Fnv.{fnvOf};
 ghost use Rattle.scene_log.specs.Numbers.{ComposesNumbers, ConversesNumber, ChecksLogFor, ReportsFor};
 ghost use Rattle.scene_log.specs.Texts.{ReadsTextNumber, WritesTextNumber};
 ghost use Rattle.scene_log.specs.Slips.{FindsNumber, PassesNumber};
-ghost use Rattle.scene_log.specs.LabelText.{PlacesNumbers};
+ghost use Rattle.scene_log.specs.LabelText.{TellsNumbers};
 ghost use Rattle.scene_log.specs.InBytes.{StartsFor, ChecksLineFor, ChecksTalliedFor, KeepsLogFor, RelatesNumber};
 use label_book::Piece;
 use trace::RunNo;
@@ -219,7 +219,7 @@ pub extern "C" fn scene_log_label_text(
     start: &mut usize,
     size: &mut usize,
 ) -> u32
-    ensures { λ n. ⌜ PlacesNumbers (now (book .entry)) (now (log .entry)) place length (now (start .entry)) (now (size .entry)) n (now (start .exit)) (now (size .exit)) ⌝ }
+    ensures { λ n. ⌜ TellsNumbers (now (book .entry)) (now (log .entry)) place length (now (start .entry)) (now (size .entry)) n (now (start .exit)) (now (size .exit)) ⌝ }
 {
     let p = label_book::piece_for(book, log, place, length);
     match p {

@@ -23,8 +23,11 @@ returns-2 c = search needs
 enum-known-b : tie.Need-enum-known-b
 enum-known-b c = search needs
 
-show-requires : tie.Need-show-requires
-show-requires c κs = (refl, refl, search counted, search counted, search needs)
+show-text-requires : tie.Need-show-text-requires
+show-text-requires c κs = (refl, refl, search counted, search counted, search needs)
+
+show-refusal-requires : tie.Need-show-refusal-requires
+show-refusal-requires c κs = (refl, refl, search counted, search counted, search needs)
 
 returns-3 : tie.Need-returns-3
 returns-3 c = search needs
@@ -42,6 +45,7 @@ print-spec =
     enum-told-2
     returns-2
     enum-known-b
-    show-requires
+    show-text-requires
+    show-refusal-requires
     returns-3
     returns-4)

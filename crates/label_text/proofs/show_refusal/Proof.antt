@@ -1,21 +1,9 @@
--- The calls are made on what the reads brought, and what they answer is what the two writers ask for.
+-- The same of the call that tells the refusal.
 use Rattle.told.proofs.Told.{read-count}
-use Rattle.label_text.proofs.Shown.{text-shown, refusal-shown}
+use Rattle.label_text.proofs.Shown.{refusal-shown}
 use borrow.Author.Needs.{needs}
-use Rattle.label_text.proofs.show.Statement.{statement}
-use Rattle.label_text.proofs.show.Tie as tie
-
-slice-aggregate-text-for : tie.Need-slice-aggregate-text-for
-slice-aggregate-text-for c = search read-count
-
-slice-aggregate-text-for-2 : tie.Need-slice-aggregate-text-for-2
-slice-aggregate-text-for-2 c = search read-count
-
-text-for-requires : tie.Need-text-for-requires
-text-for-requires c κs = search needs
-
-print-text-requires : tie.Need-print-text-requires
-print-text-requires c κs = search text-shown
+use Rattle.label_text.proofs.show_refusal.Statement.{statement}
+use Rattle.label_text.proofs.show_refusal.Tie as tie
 
 slice-aggregate-piece-for : tie.Need-slice-aggregate-piece-for
 slice-aggregate-piece-for c = search read-count
@@ -47,14 +35,10 @@ print-refusal-requires c κs = search refusal-shown
 returns : tie.Need-returns
 returns c = search needs
 
-pub show-spec : {M : Type 1} → statement M
-show-spec =
+pub show-refusal-spec : {M : Type 1} → statement M
+show-refusal-spec =
     tie.close
     (tie.spec
-    slice-aggregate-text-for
-    slice-aggregate-text-for-2
-    text-for-requires
-    print-text-requires
     slice-aggregate-piece-for
     slice-aggregate-piece-for-2
     piece-for-requires

@@ -1,6 +1,6 @@
 /* Checks a log with the rule "some run is before another", which is typed: at once in the square layout of a work area,
  * up to the first line that fails and in full, and line by line in the half layout. Then shows the runs that break the
- * rule "no run is before another". */
+ * rule "no run is before another", and what a house's book calls two labels. */
 #include <stdio.h>
 #include <string.h>
 #include "scene_log.h"

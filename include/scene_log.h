@@ -123,8 +123,8 @@ enum scene_log_mode {
     SCENE_LOG_FULL = 1
 };
 
-/* A label has 1 to 24 bytes, each a letter, a digit or an underscore. In logs, rule files and typed rules a to z count
- * as A to Z: `test`, `Test` and `TEST` are one label, with one number in a record. Capitals come back: in the record,
+/* A label has 1 to 24 bytes, each a letter, a digit or an underscore. In logs, rule files, typed rules and books a to z
+ * count as A to Z: `test`, `Test` and `TEST` are one label, with one number in a record. Capitals come back: in the record,
  * in a rule file that is made from a typed rule, and in the text of a rule file. A rule file that is handed in stays as
  * it is. So a rule file whose list has one label in two cases is refused with 5, in a typed rule they are one label,
  * and a record with a small letter in a label is refused with 21. Nothing but labels is read in either case: not the B
@@ -336,8 +336,8 @@ scene_log_answer scene_log_slip_passes(const uint8_t *rule, size_t rule_length,
  * lists the label; *start is then the place of its text in the book, and *size the number of its bytes. Otherwise
  * SCENE_LOG_IN_LOG, and they are place and length. The text has 1 byte at least, and no byte 0 behind it. Refused with
  * 27 for a book outside its form, wherever the fault stands, and then with 13 for a piece that is not wholly inside the
- * log, or is no label; *start and *size then stay as they were. Any place and length are taken. start and size point to
- * two different numbers, and neither lies in the book or the log. */
+ * log, or is no label (the sentence of 13 speaks of a line); then *start and *size stay as they were. Any place and
+ * length are taken. start and size are not NULL, and point to two different numbers outside the book and the log. */
 SCENE_LOG_CALL SCENE_LOG_NOT_NULL(7, 8)
 scene_log_answer scene_log_label_text(const uint8_t *book, size_t book_length, const uint8_t *log, size_t log_length,
                                       size_t place, size_t length, size_t *start, size_t *size);

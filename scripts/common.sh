@@ -90,7 +90,7 @@ build() { # PROGRAM..
 }
 
 # Runs a program that turns a typed rule into a rule file, a rule file into text, or a label into its text in the file
-# `book` of the room. It runs in the room, and FILE is one there. What it prints is left there as `made`. A refusal
+# `book` of the room. It runs in the room, and FILE is one there or /dev/null. What it prints is left there as `made`. A refusal
 # prints nothing, and says R and a number on standard error: `refused` is this number, or empty.
 turn() { # PROGRAM FILE
     refused=''

@@ -57,7 +57,7 @@ SameButCase es fs =
     (length es ≡ length fs)
     × ((i : ℕ) → i < length es → (capitalsAt es i ≡ capitalsAt fs i) × (getD es i noEntry .text ≡ getD fs i noEntry .text))
 
--- "Labels compare as in F-7": the label l is that of a line, whose text stands behind the lines before it, its label and the sign
+-- "Labels compare as in F-7": the label l is that of a line, whose text stands behind the lines before it, its label and the `=`
 pub record TextAt (es : List Entry) (l : List ℕ) (start end : ℕ) : Type 0 where
   pub before : List Entry
   pub entry : Entry

@@ -64,7 +64,7 @@ labelAt? log p n = leb (p + n) (length log) && labelForm? (capitals (pieceAt log
 abbrev pub bytesInside : List ℕ → ℕ → ℕ → List ℕ
 bytesInside log p n = cond (leb (p + n) (length log)) (pieceAt log p n) []
 
--- the piece of what the lines of a book have; they are a book already
+-- the piece, by what the lines of a book have for the label; of lines that are read it is never NoBook
 abbrev pub pieceOf : Listing → ℕ → ℕ → Piece
 pieceOf (Text start end) p n = InBook start end
 pieceOf Missing p n = InLog p (p + n)

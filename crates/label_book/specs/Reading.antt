@@ -1,4 +1,4 @@
--- The same by computing: the lines of a book, and where it has the text of a label.
+-- What `Book.antt` says, by computing: the lines of a book, and where it has the text of a label.
 use Prim.Native.Nat.{ℕ, zero, suc, _+_}
 use mathlib.Core.Bool.{Bool, true, false, not, _&&_, _||_, cond}
 use mathlib.Core.Option.{Option, none, some}

@@ -17,7 +17,7 @@ module _ (book log : List ℕ) (p n start size : ℕ) (r : Piece) (w : TellsPiec
   log-order x y e = omega (arith, inside-log book log p n r w x y e .0)
 
   numbers : (a b c : ℕ) → _≡_ {A = ℕ × ℕ × ℕ} (a, b, c) (pieceNumbered r start size) → TellsNumbers book log p n start size a b c
-  numbers a b c e = record { piece = r; places = w; answer = e }
+  numbers a b c e = record { piece = r; told = w; answer = e }
 
   pub book-numbers : (x y : ℕ) → r ≡ InBook x y → TellsNumbers book log p n start size 0 x (y - x)
   book-numbers x y e = numbers 0 x (y - x) (sym (ap (λ (k : Piece). pieceNumbered k start size) e))

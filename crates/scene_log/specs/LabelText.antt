@@ -15,5 +15,5 @@ pieceNumbered (Refused c) start size = (refusal c, start, size)
 
 pub record TellsNumbers (book log : List ℕ) (p n start size number start′ size′ : ℕ) : Type 0 where
   pub piece : Piece
-  pub places : TellsPiece book log p n piece
+  pub told : TellsPiece book log p n piece
   pub answer : _≡_ {A = ℕ × ℕ × ℕ} (number, start′, size′) (pieceNumbered piece start size)

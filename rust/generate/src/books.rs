@@ -217,7 +217,7 @@ fn wrong_book(random: &mut Random) -> (&'static str, Vec<u8>, Vec<Vec<u8>>) {
             ("a label of no byte", in_order(lines))
         }
         1 => {
-            // Those past 256 are labels where lengths are cut to 8 bits.
+            // 257 and 280 are lengths of a label where they are cut to 8 bits.
             let length = *random.pick(&[25, 25, 25, 26, 48, 255, 256, 257, 280, 281]);
             lines[at].label = label_bytes(random, length);
             ("a label of 25 bytes or more", in_order(lines))
@@ -233,7 +233,7 @@ fn wrong_book(random: &mut Random) -> (&'static str, Vec<u8>, Vec<Vec<u8>>) {
             ("a text of no byte", bytes_of(&lines))
         }
         4 => {
-            // As above.
+            // 257 and 316 are lengths of a text where they are cut to 8 bits.
             let length = *random.pick(&[61, 61, 61, 62, 120, 255, 256, 257, 316, 317, 1000]);
             lines[at].text = text_of_length(random, length);
             ("a text of 61 bytes or more", bytes_of(&lines))
@@ -417,7 +417,7 @@ fn line_of_a_few_bytes(random: &mut Random, label: &str) -> Vec<u8> {
 
 // ---- pieces
 
-/// Numbers that change no number of 8, 16 or 32 bits to which they are added.
+/// Numbers that are lost where a sum is cut to 8 bits, all but the first also where it is cut to 16.
 const HIGH_BITS: [usize; 5] = [1 << 8, 1 << 16, 1 << 32, 1 << 48, 1 << 63];
 
 /// A piece of a log. The labels are those of a book.

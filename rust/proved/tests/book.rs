@@ -354,7 +354,7 @@ fn a_label_has_1_to_24_bytes_and_a_text_1_to_60() {
         };
         assert_eq!(answer, expected, "a label of {label} bytes, a text of {text}");
     }
-    // Where a length is cut to 8, 16 or 32 bits, these are short.
+    // Where a length is cut to 8 or 16 bits, most of these are short.
     for length in [255, 256, 257, 280, 300, 316, 65_535, 65_536, 65_537, 65_560, 65_596] {
         for (label, text) in [(length, 1), (1, length), (length, length)] {
             assert_eq!(of_label(&line_of(label, text), b"z", "long ones"), Err(27));
@@ -490,7 +490,7 @@ fn a_book_outside_its_form_comes_before_a_piece_that_is_no_label() {
 
 /// A pointer may be NULL where the length is 0.
 #[test]
-fn no_book_lists_nothing_and_no_log_has_a_label() {
+fn an_empty_book_lists_nothing_and_an_empty_log_has_no_label() {
     let log = b"B 7 WEST\n";
     let nothing = (ptr::null(), 0);
     let lent = (log.as_ptr(), log.len());

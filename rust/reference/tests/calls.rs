@@ -562,7 +562,7 @@ fn a_listed_label_has_the_text_of_the_book_and_another_its_bytes_in_the_log() {
     // A part of a label, and a piece that is no label of a line.
     assert_eq!(text(5, 8), Piece::InLog { start: 5, length: 8 });
     assert_eq!(text(2, 1), Piece::InLog { start: 2, length: 1 });
-    // In no book is anything listed.
+    // A book of no bytes lists nothing.
     assert_eq!(label_text(b"", log, 4, 9), Ok(Piece::InLog { start: 4, length: 9 }));
     // The log need not be one: here it is the book.
     assert_eq!(label_text(book, book, 15, 9), Ok(Piece::InBook { start: 25, length: 18 }));

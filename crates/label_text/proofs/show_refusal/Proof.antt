@@ -1,4 +1,4 @@
--- The same of the call that tells the refusal.
+-- The call is made on what the reads brought, and the line of its refusal is what the writer asks for.
 use Rattle.told.proofs.Told.{read-count}
 use Rattle.label_text.proofs.Shown.{refusal-shown}
 use borrow.Author.Needs.{needs}

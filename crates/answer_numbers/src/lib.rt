@@ -3,6 +3,8 @@
 // `keep_record`, `keep_tallied` and `keep_log` also put the record of the lines that are taken into bytes, and the tally into five
 // numbers; `tally_from` reads these, `as_byte` makes a byte of any number, `layout_of` a layout of its
 // number, and `mode_of` a mode.
+#![tactic(auto)]
+
 ghost use Rattle.std.specs.Prelude.{◌≡◌, ◌≤◌, length};
 ghost use Rattle.std.proofs.Math.Option.{some};
 ghost use Rattle.answer_numbers.specs.Numbers.{layout_named, NamesMode, set_number, relation_number, log_number, report_number, ReportFits, written_number, WrittenFits};

@@ -2,18 +2,20 @@
 //
 // `fill` reads until a buffer is full, the input ends or a read fails, and tells the last two apart. `read_file` reads a file,
 // `read_rule` the rule file, and `complain` says on standard error that a read failed.
+#![tactic(auto)]
+
 ghost use Rattle.std.specs.Prelude.{◌≡◌, length};
 ghost use Rattle.input.specs.Filled.{Fills, came_of, Brings};
 
 // How many bytes stand at the start of the buffer, up to the end of the input or of the buffer; or a read failed.
-#[derive(Drop)]
+#[derive(Clone, Copy)]
 pub enum Filled {
     Bytes(usize),
     Failed,
 }
 
 // What one read brought.
-#[derive(Drop)]
+#[derive(Clone, Copy)]
 enum Came {
     Some(usize),
     Nothing,

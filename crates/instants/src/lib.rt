@@ -3,6 +3,8 @@
 // `instant_of` reads one from a record. On a lent column, `date_line` gives the next line its instant, and `joins_none` and `in_instant` tell
 // which lines cannot join the one before; `spread_instants` and `instant_list` go from a record's instants to a column and back, and
 // `same_instants` compares two columns.
+#![tactic(auto)]
+
 ghost use Rattle.std.specs.Prelude.{◌≡◌, ◌&&◌, cond, eqb, ◌+◌, ◌<◌, length};
 ghost use Rattle.lists.specs.Limits.{max_lines, max16};
 ghost use Rattle.lists.specs.Tells.{Tells};
@@ -12,7 +14,7 @@ ghost use Rattle.instants.specs.Column.{instants_in, dated_in};
 use lists::MAX_LINES;
 
 // An instant's number, from 1; 0 for none.
-#[derive(Drop)]
+#[derive(Clone, Copy)]
 pub struct InstantNo(pub u16);
 
 // The instant of line `l`: 0 for no line.

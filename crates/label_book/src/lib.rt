@@ -3,6 +3,8 @@
 // `text_for` hands the text back where it stands, as a part of the book or of the log. `piece_for` is its twin: it answers where that part
 // stands, or the refusal for which `text_for` hands back no bytes. Behind both is one pass over the book, line by line. No verdict
 // depends on a book.
+#![tactic(auto)]
+
 ghost use Rattle.std.specs.Prelude.{◌≡◌, cond};
 ghost use Rattle.labels.specs.Label.{capitals};
 ghost use Rattle.label_book.specs.Reading.{fits?, span, line_of, before?, first_of, look_up};
@@ -15,14 +17,14 @@ use labels::MAX_LABEL_BYTES;
 const MAX_TEXT_BYTES: usize = 60;
 
 // A line of a book: how many bytes its label has, and its text.
-#[derive(Drop)]
+#[derive(Clone, Copy)]
 enum Line {
     Read(usize, usize),
     Bad,
 }
 
 // What a book has for a label: its text, from the first byte to past the last; or nothing; or the bytes are no book.
-#[derive(Drop)]
+#[derive(Clone, Copy)]
 enum Listing {
     Text(usize, usize),
     Missing,
@@ -30,7 +32,7 @@ enum Listing {
 }
 
 // Where the text for a label stands, from its first byte to past its last; or the number of the refusal.
-#[derive(Drop)]
+#[derive(Clone, Copy)]
 pub enum Piece {
     InBook(usize, usize),
     InLog(usize, usize),

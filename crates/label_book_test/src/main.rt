@@ -1,4 +1,6 @@
 // What a label book hands back: each line of the output is a case's name, the text, and where it stands or why it is refused.
+#![tactic(auto)]
+
 use label_book::Piece;
 
 fn show_place(name: &[u8], start: usize, end: usize) {

@@ -6,6 +6,8 @@
 // long, which is said on standard error, and nothing is printed. A read or a write that fails is said on standard error, and after a
 // failed read nothing is written. Nothing follows the text, not even an LF. Arguments are ignored. What the text is, is the work of the
 // crate `label_book`.
+#![tactic(auto)]
+
 ghost use Rattle.std.specs.Prelude.{◌<◌, ◌≡◌, length};
 ghost use Rattle.input.specs.Filled.{Fills};
 ghost use Rattle.input.specs.declared.Filled.TheVariants.{Bytes};

@@ -5,6 +5,8 @@
 // which byte strings are labels as they are written, `same_label` whether two of them are one, and `label_from` makes a label of one: it
 // holds the capitals.
 // `no_labels` is the empty table, `find_label` looks a label up, `add_label` adds one at the place that the search found.
+#![tactic(auto)]
+
 ghost use Rattle.std.specs.Prelude.{◌≡◌, [], ℕ, ◌+◌, ◌*◌, ◌%◌, ◌<◌, ◌≤◌, length};
 ghost use Rattle.lists.specs.Limits.{max_log_labels};
 ghost use Rattle.lists.specs.Lists.{same?};
@@ -23,18 +25,18 @@ pub const MAX_LABEL_BYTES: usize = 24;
 pub const LABEL_PLACES: usize = 128;
 
 // A label's number, from 1 in the order of first appearance; 0 for none.
-#[derive(Drop)]
+#[derive(Clone, Copy)]
 pub struct LabelNo(pub u8);
 
 // The first `length` bytes are the label's, the others 0. Length 0: no label.
-#[derive(Drop)]
+#[derive(Clone, Copy)]
 pub struct Label {
     pub bytes: [u8; MAX_LABEL_BYTES],
     pub length: u8,
 }
 
 // The first `count` labels are the table's. A place holds the number of the label that stands there, 0 where it is empty.
-#[derive(Drop)]
+#[derive(Clone, Copy)]
 pub struct LabelTable {
     pub labels: [Label; MAX_LOG_LABELS],
     pub places: [LabelNo; LABEL_PLACES],
@@ -42,7 +44,7 @@ pub struct LabelTable {
 }
 
 // What a search for a label finds: its number, or the empty place where it would go.
-#[derive(Drop)]
+#[derive(Clone, Copy)]
 pub enum Slot {
     Seen(LabelNo),
     Free(usize),

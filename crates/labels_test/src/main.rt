@@ -18,6 +18,8 @@
 //   t              the table is that of no labels
 //   f WORD         writes where the search for a word ends
 //   p WORD         the same, and the table has the word's label then
+#![tactic(auto)]
+
 mod show;
 mod table;
 

@@ -1,6 +1,8 @@
 // The call on one line that is lent a tally.
 //
 // `check_line_lent` updates the tally where it stands, by `update`; `lend_tally` calls it for a caller that holds a tally by value.
+#![tactic(auto)]
+
 ghost use Rattle.std.specs.Prelude.{◌≡◌};
 ghost use Rattle.tallies.specs.Tally.{untallied, ChecksTallied, ChecksLent};
 

@@ -1,6 +1,8 @@
 // Levels of variables: the number of "some" around the one that binds a use, from 0.
 //
 // `no_levels` is outside every "some", `entered` inside one more, and `level_of` answers the level of a variable.
+#![tactic(auto)]
+
 ghost use Rattle.std.specs.Prelude.{◌≡◌, ◌<◌};
 ghost use Rattle.rules.specs.Limits.{variables};
 ghost use Rattle.levels.specs.Levels.{binds, no_levels};
@@ -9,7 +11,7 @@ ghost use Rattle.levels.specs.Carried.{levels_of};
 use rules::VARIABLES;
 
 // The level of the "some" that binds each variable; 0 where none does.
-#[derive(Drop)]
+#[derive(Clone, Copy)]
 pub struct VarLevels {
     pub of: [usize; VARIABLES],
 }

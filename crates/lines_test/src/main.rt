@@ -7,6 +7,8 @@
 //   n       what stands at the place; the place is then the one after it
 //   r       what a reader at the place answers, and its place after that, which is the place then
 // `=` writes its text.
+#![tactic(auto)]
+
 use libc::STDIN_FILENO;
 use lines::{Next, Parsed};
 

@@ -4,6 +4,8 @@
 // no report is written. `full` as the first argument names the full mode; any other, or none, leaves the default, which stops at the
 // first failure. Further arguments are ignored. What the report says is the work of the crate `report`. The work area has the half
 // layout, which is the faster one (docs/PERFORMANCE.md); what is printed is the same in either.
+#![tactic(auto)]
+
 ghost use Rattle.std.specs.Prelude.{◌≤◌, ◌≡◌, length, take};
 ghost use Rattle.lists.specs.Lists.{bytes, same?};
 ghost use Rattle.io.specs.Counts.{IsPrefixLen};

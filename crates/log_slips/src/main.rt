@@ -3,6 +3,8 @@
 //
 // A rule file that can't be opened counts as no bytes. A read or a write that fails is said on standard error, and after a failed read
 // nothing is printed. Arguments are ignored. What a slip is, and which is the first, is the work of the crate `slips`.
+#![tactic(auto)]
+
 ghost use Rattle.std.specs.Prelude.{◌+◌, ◌≤◌, ◌≡◌, true, length, take};
 ghost use Rattle.input.specs.Filled.{Fills};
 ghost use Rattle.rules.specs.Limits.{max_nested};
@@ -30,7 +32,7 @@ const LOG_ROOM: usize = 8192;
 const TEXT_ROOM: usize = 5140;
 
 // What the lines so far leave: the record, where the next line starts, the length of the text, and whether lines are read on.
-#[derive(Drop)]
+#[derive(Clone, Copy)]
 struct Walk {
     state: Record,
     place: usize,

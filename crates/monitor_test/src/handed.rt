@@ -4,7 +4,7 @@ use pairs::Layout;
 use trace::Record;
 
 // The layout, the mode, and how many bytes of the rule file, the work area and the verdict buffer are in use.
-#[derive(Drop)]
+#[derive(Clone, Copy)]
 pub struct Sizes {
     pub layout: usize,
     pub mode: usize,
@@ -14,7 +14,7 @@ pub struct Sizes {
 }
 
 // What stands from case to case, beside the bytes. The outcome has no part.
-#[derive(Drop)]
+#[derive(Clone, Copy)]
 pub struct State {
     pub held: Tallied,
     pub sizes: Sizes,

@@ -22,6 +22,8 @@
 //                whether each byte of the work area is as it was
 //   w LOG        a whole log, in a work area of 7s and a verdict buffer of 9s, which are not kept
 // `=` writes its text.
+#![tactic(auto)]
+
 mod answers;
 mod calls;
 mod handed;

@@ -1,9 +1,11 @@
 // Bytes written over those of a lent buffer, from a place on; and what a call answers that writes to one.
+#![tactic(auto)]
+
 ghost use Rattle.std.specs.Prelude.{◌+◌, ◌≤◌, length};
 ghost use Rattle.output.specs.Output.{Appends};
 
 // How many bytes were written to the front of the buffer; or the refusal's number, and nothing was.
-#[derive(Drop)]
+#[derive(Clone, Copy)]
 pub enum Written {
     Length(usize),
     Refused(u8),

@@ -5,6 +5,8 @@
 // `start_record` starts a record in a lent work area. `pair_byte` gives the byte of two runs. `clear_pairs` clears the bytes,
 // `fill_pairs` writes those of a record, `refresh_run` brings those of one run up to date after its begin or end line,
 // and `pairs_match` compares the whole area with a record.
+#![tactic(auto)]
+
 ghost use Rattle.std.specs.Prelude.{◌≡◌, cond, ◌<◌, ◌≤◌, length};
 ghost use Rattle.lists.specs.Tells.{Tells};
 ghost use Rattle.lists.specs.Limits.{max_runs};
@@ -20,7 +22,7 @@ use lists::MAX_RUNS;
 use trace::{Record, Run, RunNo, RunTable};
 
 // Where the pair bytes lie: in a row for each run, or each pair of runs once.
-#[derive(Drop)]
+#[derive(Clone, Copy)]
 pub enum Layout {
     Square,
     Half,
@@ -32,14 +34,14 @@ pub const SQUARE_BYTES: usize = 16384;
 pub const HALF_BYTES: usize = 8128;
 
 // A record is started, or the number of the refusal.
-#[derive(Drop)]
+#[derive(Clone, Copy)]
 pub enum Start {
     Ready,
     Refused(u8),
 }
 
 // The record of no lines, and whether the work area is ready for it.
-#[derive(Drop)]
+#[derive(Clone, Copy)]
 pub struct Started {
     pub state: Record,
     pub outcome: Start,

@@ -13,6 +13,8 @@
 // In a text `%a` to `%d` are the pair bytes of runs 0 and 1, 0 and 2, 1 and 2, and 1 and 0; `%e` and `%f` the area's first and last byte;
 // `%g` to `%j` how many of its bytes are 0, 1, 6 and 7; and `%k` the record's count of lines. In the half layout the bytes of runs 0 and 1,
 // 0 and 2, and 1 and 2 are the first three: `%e`, `%a` and `%b`.
+#![tactic(auto)]
+
 mod area;
 mod calls;
 

@@ -4,6 +4,8 @@
 // `signs_wide` answers the signs of any positions: those of their ranks, which fit in 16 bits and stand to each other
 // as the positions do. `all_fit` tells whether four positions fit, and `cut` cuts one to 16 bits. `have_common` tells
 // by the signs whether two runs have a common moment.
+#![tactic(auto)]
+
 ghost use Rattle.std.specs.Prelude.{ℕ, ◌%◌, ◌≡◌};
 ghost use Rattle.lists.specs.Tells.{Tells};
 ghost use Rattle.positions.specs.Comparison.{sign_of, signs_of, CommonMoment, AllFit, one_below, rank_of};
@@ -19,7 +21,7 @@ pub const ABOVE: u8 = 2;
 const BEYOND: u64 = 65536;
 
 // The signs of the positions of two runs a and b, two by two.
-#[derive(Drop)]
+#[derive(Clone, Copy)]
 pub struct Signs {
     // The starts of a and b; their finishes.
     pub starts: u8,

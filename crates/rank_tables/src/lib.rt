@@ -2,6 +2,8 @@
 //
 // Each row gains the ranks that have its number as their value: this is what `numbered` answers. For `earlier` it is then spread over
 // the rows after it, so that a row has the ranks whose value is below its number.
+#![tactic(auto)]
+
 ghost use Rattle.std.specs.Prelude.{◌≡◌, ◌&&◌, ◌||◌, ℕ, ◌+◌, ◌*◌, ◌<◌, ◌≤◌, eqb, length};
 ghost use Rattle.lists.specs.Limits.{max_runs, max_lines, max_log_labels};
 ghost use Rattle.sets.specs.Sets.{mem};

@@ -6,6 +6,8 @@
 // The form: bytes 0 and 1 hold the line count, low byte first, byte 2 the count of runs, byte 3 the count of labels. From byte 4
 // on there are 7 bytes for each of 128 runs: id, begin line and end line, each low byte first, and the label's number. From byte
 // 900 on there are 25 bytes for each of 64 labels: its length and its 24 bytes. From byte 2,500 on the 128 places.
+#![tactic(auto)]
+
 ghost use Rattle.record_bytes.specs.Calls.{Unpacks, Packs};
 
 use trace::Record;
@@ -35,14 +37,14 @@ const LABEL_BYTES: usize = 25;
 const PLACES_AT: usize = 2500;
 
 // The bytes are read or written, or the number of the refusal.
-#[derive(Drop)]
+#[derive(Clone, Copy)]
 pub enum PackOutcome {
     Done,
     Refused(u8),
 }
 
 // The record that bytes hold: the record of no lines where they are refused.
-#[derive(Drop)]
+#[derive(Clone, Copy)]
 pub struct Unpacked {
     pub state: Record,
     pub outcome: PackOutcome,

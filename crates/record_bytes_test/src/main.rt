@@ -11,6 +11,8 @@
 //   s        writes the sum of the buffer's bytes
 //   u        writes whether the buffer unpacks, and the same counts
 // `=` writes its text.
+#![tactic(auto)]
+
 mod calls;
 mod show;
 

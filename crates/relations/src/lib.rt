@@ -2,6 +2,8 @@
 //
 // `relation_between` compares the positions of two runs, `relate` two runs of a record. `compose` and `converse` answer the
 // composition of two sets of relations and the converse of one.
+#![tactic(auto)]
+
 ghost use Rattle.std.specs.Prelude.{◌≡◌, get_or};
 ghost use Rattle.trace.specs.Trace.{no_run};
 ghost use Rattle.relations.specs.Relation.{Compared};
@@ -37,21 +39,21 @@ const FORWARDS: u8 = BEFORE + OVERLAPS + INCLUDES;
 const BACKWARDS: u8 = AFTER + OVERLAPPED + DURING;
 
 // The number of the relation of two runs, or of the refusal.
-#[derive(Drop)]
+#[derive(Clone, Copy)]
 pub enum Related {
     Relation(u8),
     Refused(u8),
 }
 
 // A set of relations, or the number of the refusal.
-#[derive(Drop)]
+#[derive(Clone, Copy)]
 pub enum Composed {
     Set(u8),
     Refused(u8),
 }
 
 // The lines where a run starts and finishes: 0 for none.
-#[derive(Drop)]
+#[derive(Clone, Copy)]
 struct Span {
     start: u64,
     finish: u64,

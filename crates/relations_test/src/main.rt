@@ -13,6 +13,8 @@
 //   R C        the record, changed in one place (`test_records`)
 //   r N N      the relation of two runs of the record
 // The line of an answer is the text and what the call answers; `=` writes its text.
+#![tactic(auto)]
+
 mod runs;
 mod sets;
 

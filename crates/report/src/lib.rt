@@ -1,6 +1,8 @@
 // The report of a check: its whole output for a rule file and a log, as bytes in a lent buffer.
 //
 // `report` lends the work area and the verdict buffer to the whole-log call, and writes the text from what that answers.
+#![tactic(auto)]
+
 ghost use Rattle.std.specs.Prelude.{◌≡◌, ◌+◌, ◌≤◌, length};
 ghost use Rattle.lists.specs.Limits.{max_lines};
 ghost use Rattle.text_pieces.specs.Writing.{Writes, WritesFew};
@@ -18,7 +20,7 @@ use whole_log::Mode;
 pub const REPORT_BYTES: usize = 2048;
 
 // The length of the report, or the number of the refusal.
-#[derive(Drop)]
+#[derive(Clone, Copy)]
 pub enum Reported {
     Length(usize),
     Refused(u8),

@@ -5,13 +5,15 @@
 // A case is a kind and a text (`test_cases`): `r` gives the rule file, `y` the layout, 0 square (as at first) or 1 half, `m` the
 // mode, 0 up to the first failure (as at first) or 1 full, `b` how many bytes of the work area, the verdict buffer and the text buffer are lent, of 16400, 260 and 2100; `+` gives lines of a log, `p` its last
 // lines and has the report printed; `=` writes its text.
+#![tactic(auto)]
+
 use libc::STDIN_FILENO;
 use pairs::Layout;
 use report::Reported;
 use whole_log::Mode;
 
 // The layout, the mode, and how many bytes of the rule file, the log, the work area, the verdict buffer and the text buffer are in use.
-#[derive(Drop)]
+#[derive(Clone, Copy)]
 struct Sizes {
     layout: usize,
     mode: usize,

@@ -1,1 +1,3 @@
 // A rule written as text and read again. There is no code here.
+#![tactic(auto)]
+

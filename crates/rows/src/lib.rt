@@ -2,6 +2,8 @@
 //
 // A rank is a place in the order in which runs finish. `fill_rows` writes the table from the runs of a record. With the ranks
 // that start before each line and those that finish before each line at hand, every row is a few operations on sets.
+#![tactic(auto)]
+
 ghost use Rattle.std.specs.Prelude.{◌≤◌, length};
 ghost use Rattle.row_table.specs.Rows.{table_words};
 ghost use Rattle.rows.specs.Values.{Wanted, Ranks};
@@ -16,7 +18,7 @@ use rank_tables::{earlier, numbered};
 use trace::RunTable;
 
 // Start, finish and label number of the run of each rank; 0 where no run has the rank.
-#[derive(Drop)]
+#[derive(Clone, Copy)]
 struct Positions {
     start: [usize; MAX_RUNS],
     finish: [usize; MAX_RUNS],

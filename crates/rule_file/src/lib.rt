@@ -1,6 +1,8 @@
 // A rule file as a whole: the rule that its bytes hold, or the number of its first fault (1 to 10).
 //
 // `read_rule` reads a file of any bytes, part by part from its front, and then checks its table of nodes as a whole.
+#![tactic(auto)]
+
 ghost use Rattle.rules.specs.Rules.{ReadsRule};
 
 use rules::{LABEL_COUNT_AT, Read, RuleRead};

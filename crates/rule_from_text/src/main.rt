@@ -3,6 +3,8 @@
 // A text that is refused gives no file: `R` and the refusal's number go to standard error, as `R25`. A read or a write that fails is said
 // on standard error, and after a failed read nothing is written. Arguments are ignored. What the file is, is the work of the crate
 // `typed_file`.
+#![tactic(auto)]
+
 ghost use Rattle.std.specs.Prelude.{◌≡◌, length};
 ghost use Rattle.rules.specs.Limits.{max_file_bytes};
 ghost use Rattle.input.specs.Filled.{Fills};

@@ -1,6 +1,8 @@
 // The text of a rule: "brackets stand round each "and" and each "some" (of one name each) and round no other node".
 //
 // `text_from_rule` reads a rule file and writes the text of its rule into a lent buffer, or refuses and leaves the buffer as it was.
+#![tactic(auto)]
+
 ghost use Rattle.std.specs.Prelude.{◌≤◌, length};
 ghost use Rattle.rule_text.specs.Text.{WritesText};
 

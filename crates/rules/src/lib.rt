@@ -3,6 +3,8 @@
 //
 // Nothing is copied: a rule names places of its file. For a file that is taken, `file_labels::label_of` gives a label, in
 // capitals, and `table::node_at` a node.
+#![tactic(auto)]
+
 pub mod file_labels;
 pub mod front;
 pub mod table;
@@ -23,14 +25,14 @@ pub const LABEL_COUNT_AT: usize = 5;
 const LABELS_AT: usize = 6;
 
 // What reading a part of a file finds: the place after it, or the refusal's number.
-#[derive(Drop)]
+#[derive(Clone, Copy)]
 pub enum Read {
     At(usize),
     Refused(u8),
 }
 
 // A node of the table.
-#[derive(Drop)]
+#[derive(Clone, Copy)]
 pub struct Node {
     pub kind: u8,
     pub a: usize,
@@ -38,13 +40,13 @@ pub struct Node {
 }
 
 // Which variables a "some" around the place binds.
-#[derive(Drop)]
+#[derive(Clone, Copy)]
 pub struct Vars {
     pub bound: [bool; VARIABLES],
 }
 
 // How many labels the file lists; the place of the first node, and how many nodes.
-#[derive(Drop)]
+#[derive(Clone, Copy)]
 pub struct Rule {
     pub labels: usize,
     pub nodes: usize,
@@ -52,7 +54,7 @@ pub struct Rule {
 }
 
 // What reading a file finds: its rule, or the refusal's number.
-#[derive(Drop)]
+#[derive(Clone, Copy)]
 pub enum RuleRead {
     Rule(Rule),
     Refused(u8),

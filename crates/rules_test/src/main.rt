@@ -2,6 +2,8 @@
 // Each line of the output is a case's name and its answer.
 //
 // A case is a kind and a text (`test_cases`): `n` writes a name, `+` gives bytes of a file, `f` gives its last bytes and has it read.
+#![tactic(auto)]
+
 use libc::STDIN_FILENO;
 use rules::{Rule, RuleRead};
 

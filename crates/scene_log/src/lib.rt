@@ -7,6 +7,8 @@
 // that is lent a work area names its layout by a number, and `in_layout` has it for each layout. A call on a whole log names a mode by
 // a number too: 1 is the full one, any other the default, which stops at the first failure. The text of a label is told by its place;
 // `specs/LabelText.antt` has the contract.
+#![tactic(auto)]
+
 ghost use Rattle.std.specs.Prelude.{◌≡◌};
 ghost use Rattle.labels.specs.Fnv.{fnv_of};
 ghost use Rattle.scene_log.specs.Numbers.{ComposesNumbers, ConversesNumber, ChecksLogFor, ReportsFor};

@@ -2,6 +2,8 @@
 //
 // `row` and `store_row` read and write one row. The other calls go once over the first rows. They serve a matrix, which has for each
 // run a row with moments.
+#![tactic(auto)]
+
 ghost use Rattle.std.specs.Prelude.{◌≡◌, true, false, not, ℕ, ◌+◌, ◌*◌, ◌<◌, ◌≤◌, length};
 ghost use Rattle.lists.specs.Lists.{any_below};
 ghost use Rattle.lists.specs.Limits.{max_runs};

@@ -1,10 +1,12 @@
 // Sets of runs, as two words, and what the operations on them do to each member.
+#![tactic(auto)]
+
 ghost use Rattle.std.specs.Prelude.{◌≡◌, false, not, ◌&&◌, ◌||◌, ℕ, ◌+◌, ◌-◌, ◌^◌, ◌<◌, ◌≤◌, ltb, leb};
 ghost use Rattle.lists.specs.Tells.{Tells};
 ghost use Rattle.sets.specs.Sets.{mem, any_up_to};
 
 // A set of runs: bit j of lo for j below 64, bit j - 64 of hi from there on.
-#[derive(Drop)]
+#[derive(Clone, Copy)]
 pub struct RunSet {
     pub lo: u64,
     pub hi: u64,

@@ -3,6 +3,8 @@
 // Each call goes once over the nodes of a rule, from the first, since children have smaller numbers, and answers a table with a number
 // for each node: `free_variables` the mask of the variables that stand free in it, and `heights` how many "some" lie one inside another
 // in it.
+#![tactic(auto)]
+
 ghost use Rattle.std.specs.Prelude.{◌≡◌, not, ◌&&◌, ℕ, ◌-◌, ◌<◌, ◌≤◌, max, eqb, length};
 ghost use Rattle.rules.specs.Limits.{variables, max_nodes};
 ghost use Rattle.rules.specs.Table.{Good, formula_at};

@@ -1,6 +1,8 @@
 // Writes the shape of each node of some rules.
 //
 // A line has the node's number, the mask of its free variables, and its height.
+#![tactic(auto)]
+
 ghost use Rattle.std.specs.Prelude.{◌≤◌};
 ghost use Rattle.rules.specs.Rules.{Taken};
 

@@ -2,26 +2,28 @@
 // the sign that it found.
 //
 // `sign`, `exist_sign` and `same_sign` look for one sign, `repeated` for one as often as it follows, `name` and `label` read a name and a label between quotes.
+#![tactic(auto)]
+
 ghost use Rattle.std.specs.Prelude.{◌≡◌, Bool, [], ◌∷◌, ◌≤◌, ◌<◌, ◌+◌, length, drop, get_or};
 ghost use Rattle.signs.specs.Signs.{blank?, capital?, word_byte?, skip as skip_of, sign as sign_of, name as name_of, name_more, label as label_of, exist_sign, same_sign};
 ghost use Rattle.signs.specs.Finding.{FindsSign, ReadsWord, Behind, FindsQuote, Runs};
 
 // The place behind a sign, where the text has it.
-#[derive(Drop)]
+#[derive(Clone, Copy)]
 pub enum Found {
     At(usize),
     Nothing,
 }
 
 // A name as a number, or a label's place from the end of the text; and the place behind it.
-#[derive(Drop)]
+#[derive(Clone, Copy)]
 pub enum Word {
     Word(usize, usize),
     Nothing,
 }
 
 // How many times a sign stands one behind another, and the place behind them.
-#[derive(Drop)]
+#[derive(Clone, Copy)]
 pub struct Run {
     pub count: usize,
     pub at: usize,

@@ -2,6 +2,8 @@
 //
 // `check_line` takes one line on a record and a work area. Inside, `advance` takes a line on a record and a work area that are known to be good;
 // every call on one line ends in it.
+#![tactic(auto)]
+
 ghost use Rattle.std.specs.Prelude.{◌≡◌};
 ghost use Rattle.single.specs.Line.{ChecksLine};
 
@@ -13,7 +15,7 @@ use trace::Record;
 mod step;
 
 // The verdict of a line that is taken, or the number of the refusal.
-#[derive(Drop)]
+#[derive(Clone, Copy)]
 pub enum Outcome {
     Holds,
     Fails,
@@ -21,7 +23,7 @@ pub enum Outcome {
 }
 
 // The record after a line, and the line's outcome: the same record where the line is refused.
-#[derive(Drop)]
+#[derive(Clone, Copy)]
 pub struct Checked {
     pub state: Record,
     pub outcome: Outcome,

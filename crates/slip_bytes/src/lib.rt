@@ -2,6 +2,8 @@
 //
 // `slip_from` makes a slip of bytes, `keep_slip` puts the slip of an answer into bytes, and `passing_number` is the
 // number of an answer.
+#![tactic(auto)]
+
 ghost use Rattle.std.specs.Prelude.{◌≡◌, ◌≤◌, length};
 ghost use Rattle.rules.specs.Limits.{max_nested};
 ghost use Rattle.slip_form.specs.Slips.{slip_runs};

@@ -2,6 +2,8 @@
 //
 // A rule that is "not" over a chain of one to four "some" over a part without "some" has slips: run numbers, one for
 // each "some", outermost first. `chain_top` answers where the chain of a rule begins.
+#![tactic(auto)]
+
 ghost use Rattle.std.specs.Prelude.{◌≡◌};
 ghost use Rattle.rules.specs.Table.{Good, formula_at};
 ghost use Rattle.rules.specs.Rules.{Taken};
@@ -15,14 +17,14 @@ use rules::table::node_at;
 use trace::RunNo;
 
 // A slip: the numbers of its first `count` runs, outermost first.
-#[derive(Drop)]
+#[derive(Clone, Copy)]
 pub struct Slip {
     pub count: usize,
     pub run: [RunNo; MAX_NESTED],
 }
 
 // The node at which the chain of "some" of a rule begins, if the rule has the form.
-#[derive(Drop)]
+#[derive(Clone, Copy)]
 pub enum Top {
     At(usize),
     Other,

@@ -4,6 +4,8 @@
 // runs in order of their numbers, the first for which the evaluator says that the rest of the chain is true at the last
 // moment; then the next. So a chain of four asks at most 4 times 128 questions, and one of the part below it.
 // `is_true_of` asks one: whether that part is true of given runs.
+#![tactic(auto)]
+
 ghost use Rattle.std.specs.Prelude.{◌≡◌, ◌&&◌, ℕ, ◌<◌, ◌≤◌, ltb, length, get_or};
 ghost use Rattle.lists.specs.Limits.{max_runs};
 ghost use Rattle.lists.specs.Tells.{Tells};
@@ -32,7 +34,7 @@ use slip_form::Slip;
 use trace::RunNo;
 
 // What a search finds.
-#[derive(Drop)]
+#[derive(Clone, Copy)]
 pub struct Sought {
     pub found: bool,
     pub slip: Slip,

@@ -2,6 +2,8 @@
 //
 // `first_slip` answers the first slip that passes, in order of run numbers. `passes` reads a slip, whoever wrote it.
 // Both take any rule file, record and slip, and refuse a rule of another form with 26.
+#![tactic(auto)]
+
 ghost use Rattle.std.specs.Prelude.{◌≡◌};
 ghost use Rattle.trace.specs.Record.{Valid};
 ghost use Rattle.rules.specs.Rules.{Taken};
@@ -18,7 +20,7 @@ use slip_search::Sought;
 use trace::{Record, RunNo};
 
 // What finding a slip answers: the slip beside it is the first that passes, or none does, or the number of a refusal.
-#[derive(Drop)]
+#[derive(Clone, Copy)]
 pub enum Found {
     First,
     Nothing,
@@ -26,14 +28,14 @@ pub enum Found {
 }
 
 // The answer, and the slip: one of no runs where there is none.
-#[derive(Drop)]
+#[derive(Clone, Copy)]
 pub struct Finding {
     pub found: Found,
     pub slip: Slip,
 }
 
 // What reading a slip answers: it passes or does not, or the number of a refusal.
-#[derive(Drop)]
+#[derive(Clone, Copy)]
 pub enum Passing {
     Passes,
     DoesNot,
@@ -42,7 +44,7 @@ pub enum Passing {
 
 // What the evaluator is handed for a rule and a record: the shapes of the rule's nodes, the ranks of the record's runs,
 // the table of their rows, and how many runs are finished.
-#[derive(Drop)]
+#[derive(Clone, Copy)]
 struct Prepared {
     heights: [u8; MAX_NODES],
     frees: [u8; MAX_NODES],

@@ -1,6 +1,8 @@
 // The call on one line with a tally.
 //
 // `check_line_tallied` takes one line and a tally by value. `tally_of` counts a record.
+#![tactic(auto)]
+
 ghost use Rattle.std.specs.Prelude.{◌≡◌};
 ghost use Rattle.tallies.specs.Tally.{ChecksTallied};
 
@@ -13,7 +15,7 @@ use trace::Record;
 mod counts;
 
 // Counts over accepted lines: lines, runs begun, finished and open, and lines whose verdict fails.
-#[derive(Drop)]
+#[derive(Clone, Copy)]
 pub struct Tally {
     pub lines: u32,
     pub begun: u32,
@@ -23,7 +25,7 @@ pub struct Tally {
 }
 
 // The record after a line, the tally, and the line's outcome: the same record and tally where the line is refused.
-#[derive(Drop)]
+#[derive(Clone, Copy)]
 pub struct Tallied {
     pub state: Record,
     pub tally: Tally,

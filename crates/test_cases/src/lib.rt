@@ -3,11 +3,13 @@
 // A line of the input is a case: a byte that says its kind, a space, and its text. A text is bytes, in which `\n` stands for LF, `\xNN` for
 // the byte with these two digits (0 to 9, a to f), and a backslash before any other byte for that byte; or it is numbers with one space
 // between. Each program says which kinds it has.
+#![tactic(auto)]
+
 ghost use Rattle.std.specs.Prelude.{◌<◌, ◌≤◌, length};
 ghost use Rattle.io.specs.Counts.{IsPrefixLen};
 
 // One case: its kind, where its text stands in the input, and where the next case begins.
-#[derive(Drop)]
+#[derive(Clone, Copy)]
 pub struct Case {
     pub kind: u8,
     pub start: usize,
@@ -16,7 +18,7 @@ pub struct Case {
 }
 
 // What a byte of a text is part of: a backslash that is read, `\x`, its first digit, or a byte that the text has.
-#[derive(Drop)]
+#[derive(Clone, Copy)]
 enum Reading {
     Escape,
     Hex,

@@ -4,6 +4,8 @@
 // `N label 0 length 25`, `W label 0 TEST` for a label's bytes and length, `P place 15 2` and `M label number 2 at place 15` for what a place
 // holds, `C counts 2 2 3` for those of runs, labels and lines. A place past an array's end is no change. Nothing is checked: most of these
 // records are none that accepted lines leave.
+#![tactic(auto)]
+
 use labels::{Label, LabelNo, LabelTable};
 use trace::{LineNo, Record, Run, RunTable};
 

@@ -2,6 +2,8 @@
 //
 // `take_line` takes a line that is given with its LF, `take_next` what a log reader hands out. `read_from` takes all lines of a log
 // and writes what happens to each. `numbered_line` makes one line of many.
+#![tactic(auto)]
+
 use lines::Next;
 use trace::{Record, StepOutcome, Stepped};
 

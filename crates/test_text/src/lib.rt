@@ -1,4 +1,6 @@
 // Bytes and numbers on standard output, as the test programs write them.
+#![tactic(auto)]
+
 use libc::STDOUT_FILENO;
 
 pub fn write(text: &[u8]) {

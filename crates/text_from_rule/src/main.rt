@@ -3,6 +3,8 @@
 // A file that is refused gives no text: `R` and the refusal's number go to standard error, as `R2`. A read or a write that fails is said
 // on standard error, and after a failed read nothing is written. Nothing follows the text, not even an LF. Arguments are ignored. What
 // the text is, is the work of the crate `rule_text`.
+#![tactic(auto)]
+
 ghost use Rattle.std.specs.Prelude.{◌≡◌, length};
 ghost use Rattle.input.specs.Filled.{Fills};
 ghost use Rattle.told.specs.Told.{Answered};

@@ -2,6 +2,8 @@
 //
 // `cut_label` finds the bytes of a label, `find` its number among others, `labels_ok` says whether each is one. Two labels are one
 // where their capitals are the same.
+#![tactic(auto)]
+
 ghost use Rattle.std.specs.Prelude.{◌≡◌, ◌-◌, ◌≤◌, length, get_or, drop};
 ghost use Rattle.lists.specs.Lists.{same?, up_to};
 ghost use Rattle.typed_formula.specs.Meaning.{label_text};
@@ -9,7 +11,7 @@ ghost use Rattle.labels.specs.Label.{capitals, label_form?};
 ghost use Rattle.text_labels.specs.Pieces.{EndsLabel, Cut, Finds, good_labels?, texts};
 
 // A label's first byte, and the place behind its last.
-#[derive(Drop)]
+#[derive(Clone, Copy)]
 pub struct Piece {
     pub from: usize,
     pub end: usize,

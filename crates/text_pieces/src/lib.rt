@@ -1,6 +1,8 @@
 // Pieces of text, written into a lent buffer: each call answers the place after what it wrote.
 //
 // `put_line` writes the line of a verdict byte, `put_ending` that of a refusal, `put_count` a count of a tally, `put_number` a number.
+#![tactic(auto)]
+
 ghost use Rattle.std.specs.Prelude.{◌≡◌, [], ◌∷◌, ◌+◌, ◌%◌, ◌<◌, ◌≤◌, length};
 ghost use Rattle.text_pieces.specs.Pieces.{decimal, letter_line, refused_text, count_text};
 ghost use Rattle.text_pieces.specs.Writing.{byte_letter, ending_text, unread?, LineLow, Writes, WritesFew};

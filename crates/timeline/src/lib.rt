@@ -4,6 +4,8 @@
 // finishes, and how many runs are finished by each line. `verdict_at` reads the verdict of a line off these. A begin line changes no
 // finished run, so its verdict is that of the line before. `judge_last` evaluates the rule at the last line's moment only, and
 // `first_failing` up to the first line that fails, by more and more runs.
+#![tactic(auto)]
+
 ghost use Rattle.std.specs.Prelude.{◌≡◌, cond, ◌-◌, ◌≤◌, length, get_or};
 ghost use Rattle.lists.specs.Limits.{max_runs, max_lines};
 ghost use Rattle.trace.specs.Record.{Valid};
@@ -29,7 +31,7 @@ mod search;
 
 // The moments at which a rule is true, whether it is true before the first of them, and how many runs are finished by each line. What
 // `verdict_at` reads off it is promised.
-#[derive(Drop)]
+#[derive(Clone, Copy)]
 pub struct Timeline {
     pub moments: RunSet,
     pub first: bool,

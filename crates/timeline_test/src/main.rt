@@ -3,6 +3,8 @@
 // A case is a kind and a text (`test_cases`): `l` gives the log; `j` gives a rule file, each line of the log judged after its own line; `a`
 // gives a rule file, all lines of the log judged at once; `=` writes its text. The verdicts are one line: a letter for no lines and one for
 // each line of the log, H if the rule holds and F if it fails; a refused line ends it with R and the refusal.
+#![tactic(auto)]
+
 mod each;
 mod verdicts;
 

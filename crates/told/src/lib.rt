@@ -2,6 +2,8 @@
 // refusal's number.
 //
 // `size_of` answers how many bytes of the buffer are to be handed on, and `put_error` writes the line for standard error.
+#![tactic(auto)]
+
 ghost use Rattle.std.specs.Prelude.{◌≤◌, ◌≡◌, length};
 ghost use Rattle.text_pieces.specs.Writing.{WritesFew};
 ghost use Rattle.told.specs.Told.{line_size, refusal_line, size_of, PutsError};

@@ -10,11 +10,13 @@
 //   r b n w p m c  the same; then as `?`
 //   ? TEXT     the text, and 1 if accepted lines leave the record as it is changed, 0 if not; its changes are then undone
 // `=` writes its text.
+#![tactic(auto)]
+
 use libc::STDIN_FILENO;
 use trace::Record;
 
 // The record, and the record as it is changed.
-#[derive(Drop)]
+#[derive(Clone, Copy)]
 struct State {
     left: Record,
     changed: Record,

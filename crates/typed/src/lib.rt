@@ -1,6 +1,8 @@
 // Typed rules: reading the text of a rule into a table of nodes.
 //
 // `parse` reads a whole text. The readers of the grammar's levels call each other in a cycle.
+#![tactic(auto)]
+
 ghost use Rattle.std.specs.Prelude.{◌≡◌, ◌≤◌, length};
 ghost use Rattle.typed.specs.Parsing.{Parses};
 
@@ -10,7 +12,7 @@ use signs::skip;
 mod reader;
 
 // How many nodes a text takes; or the text is outside the grammar.
-#[derive(Drop)]
+#[derive(Clone, Copy)]
 pub enum Parsed {
     Nodes(usize),
     Outside,

@@ -2,6 +2,8 @@
 // the table of nodes that reading the text leaves.
 //
 // `decide` answers the first refusal, or how many labels there are.
+#![tactic(auto)]
+
 ghost use Rattle.std.specs.Prelude.{◌≡◌, true, ◌+◌, ◌<◌, ◌≤◌, length};
 ghost use Rattle.typed_checks.specs.Fold.{fold_nodes};
 ghost use Rattle.typed_checks.specs.Tests.{bound_step, few_step, Notes, ListsPlaces, Decides};
@@ -9,7 +11,7 @@ ghost use Rattle.typed_checks.specs.Tests.{bound_step, few_step, Notes, ListsPla
 use text_labels::{find, labels_ok};
 
 // The first refusal of a table; or how many labels it has.
-#[derive(Drop)]
+#[derive(Clone, Copy)]
 pub enum Decision {
     Labels(usize),
     Refused(u8),

@@ -1,6 +1,8 @@
 // A typed rule read into a rule file.
 //
 // `rule_from_text` reads the text and writes the file into a lent buffer, or refuses and leaves the buffer as it was.
+#![tactic(auto)]
+
 ghost use Rattle.std.specs.Prelude.{◌≤◌, length};
 ghost use Rattle.typed_file.specs.Answer.{ReadsText};
 

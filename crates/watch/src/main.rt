@@ -4,6 +4,8 @@
 // A rule file that can't be opened counts as no bytes; a refused rule is all that is printed. A read or a write that fails is said on
 // standard error, and nothing more is printed after it. Arguments are ignored. The work area has the half layout, which is the faster
 // one (docs/PERFORMANCE.md); what is printed is the same in either.
+#![tactic(auto)]
+
 ghost use Rattle.std.specs.Prelude.{◌≤◌, ◌≡◌, length};
 ghost use Rattle.pairs.specs.declared.Layout.TheVariants.{Half};
 ghost use Rattle.pairs.specs.Layout.{work_size};
@@ -30,7 +32,7 @@ const LINE_ROOM: usize = 40;
 const TEXT_ROOM: usize = 32;
 
 // Whether to read on, to print the tally and stop, or to stop at once.
-#[derive(Drop)]
+#[derive(Clone, Copy)]
 enum Way {
     On,
     End,
@@ -38,7 +40,7 @@ enum Way {
 }
 
 // What the lines so far leave, and how to go on.
-#[derive(Drop)]
+#[derive(Clone, Copy)]
 struct Watch {
     state: Record,
     tally: Tally,
@@ -46,7 +48,7 @@ struct Watch {
 }
 
 // What a line leaves, its outcome, and the length of its text.
-#[derive(Drop)]
+#[derive(Clone, Copy)]
 struct Answered {
     state: Record,
     tally: Tally,
@@ -55,7 +57,7 @@ struct Answered {
 }
 
 // One byte of the input.
-#[derive(Drop)]
+#[derive(Clone, Copy)]
 enum Byte {
     Is(u8),
     End,

@@ -2,6 +2,8 @@
 //
 // `check_log` has `log::read_lines` read all lines of the log, and then judge them at once. Where it is to stop at the first failure,
 // `stop::read_to_failure` looks for the first line that fails, and what it leaves is that of the lines through this one.
+#![tactic(auto)]
+
 ghost use Rattle.std.specs.Prelude.{◌≡◌, ◌≤◌, length};
 ghost use Rattle.lists.specs.Limits.{max_lines};
 ghost use Rattle.lines.specs.Log.{lines_of};
@@ -20,7 +22,7 @@ mod log;
 mod stop;
 
 // How much of a log is read: the lines through the first that fails, or all of them.
-#[derive(Drop)]
+#[derive(Clone, Copy)]
 pub enum Mode {
     FirstFailure,
     Full,

@@ -1,0 +1,8 @@
+use Rattle.sets.proofs.Sets.{mem_meet}
+use Rattle.sets.proofs.meet.Reads as reads
+use Rattle.sets.proofs.meet.Lts as lts
+use Rattle.sets.proofs.meet.Goals as goal
+
+-- src/lib.rt:13:1
+pub returns : goal.returns
+returns c j = mem_meet _ _ j

@@ -1,7 +1,6 @@
 // The parts of a typed rule that have no rule inside, the names bound around a place, and the table of nodes that reading fills.
 #![tactic(auto)]
 
-
 pub mod atoms;
 pub mod names;
 pub mod nodes;

@@ -5,4 +5,3 @@ pub mod Parser
 pub mod Rendered
 pub mod Event
 pub mod Log
-pub mod Local

@@ -1,6 +1,6 @@
 -- What stands at a place of a file, and how a file as a concatenation grows: by one label at the end of its labels, by one node at
 -- the end of its nodes. So the parts that reading takes one after another are the parts that the file is made of.
-use Prim.Native.Nat.{ℕ, suc, ◌+◌, ◌*◌, ◌<◌}
+use Prim.Native.Nat.{ℕ, suc, ◌+◌, ◌<◌}
 use mathlib.Core.Path.{◌≡◌, refl, sym, subst, ap, ◌∙◌}
 use mathlib.Core.Logic.{◌≢◌}
 use mathlib.Core.Bool.{true, ◌&&◌}

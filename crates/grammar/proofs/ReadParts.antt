@@ -151,14 +151,14 @@ module _ {file : List ℕ} {ls : List (List ℕ)} {p : ℕ} (l rest : List ℕ) 
 -- all labels that are right are read, one after another
 labels_from : {file : List ℕ} {p : ℕ} (done ls : List (List ℕ)) (rest : List ℕ) → LabelsTo file done p (labels_part ls ++ rest) → RightLabels (done ++ ls)
     → (q : ℕ) × LabelsTo file (done ++ ls) q rest
-labels_from {file} {p} done [] rest t r = (p, subst (λ (z : List (List ℕ)). LabelsTo file z p rest) (sym (append-nil done)) t)
-labels_from {file} {p} done (l ∷ ls) rest t r =
+labels_from {file = file} {p = p} done [] rest t r = (p, subst (λ (z : List (List ℕ)). LabelsTo file z p rest) (sym (append-nil done)) t)
+labels_from {file = file} {p = p} done (l ∷ ls) rest t r =
     let o = right_next done l ls r in
     let u : LabelsTo file done p (length l ∷ (l ++ (labels_part ls ++ rest))) = subst (λ (z : List ℕ). LabelsTo file done p (length l ∷ z)) (append_assoc l (labels_part ls) rest) t in
     let new = listed_no u (capitals l) (right_new done l ls r) in
     let v = one_label_more l (labels_part ls ++ rest) u (omega (arith, o.some, length-map l capital)) (omega (arith, o.few, length-map l capital)) ((form_is_label (capitals l)).1 o) new in
     let same : done ++ (l ∷ []) ++ ls ≡ done ++ (l ∷ ls) = append_assoc done (l ∷ []) ls in
-    let w = labels_from (done ++ (l ∷ [])) ls rest v (subst RightLabels (sym same) r) in
+    let w = labels_from {file = file} {p = p + 1 + length l} (done ++ (l ∷ [])) ls rest v (subst RightLabels (sym same) r) in
     (w.0, subst (λ (z : List (List ℕ)). LabelsTo file z w.0 rest) same w.1)
 
 pub labels_to : {file : List ℕ} {k : ℕ} {ls : List (List ℕ)} {rest : List ℕ} → UpToLabel file k ls rest → (p : ℕ) × LabelsTo file ls p rest

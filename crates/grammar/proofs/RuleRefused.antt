@@ -20,7 +20,6 @@ use Rattle.rules.specs.declared.Node.{Node}
 use Rattle.rules.specs.declared.Rule.{Rule}
 use Rattle.rules.specs.declared.Read.TheVariants.{At, Refused}
 use Rattle.rules.specs.declared.RuleRead.{RuleRead}
-use Rattle.rules.specs.declared.RuleRead.TheVariants as RuleRead
 use Rattle.rules.proofs.Parts.{mark_short, mark_r, mark_u, mark_l, version-short, version_bad, labels_short, labels_many, head_mark, head_version, head_count, count_short, count_none, count_many, count_ok}
 use Rattle.rules.proofs.Labels.{labels_stop}
 use Rattle.rules.proofs.Nodes.{nodes_stop}

@@ -84,10 +84,10 @@ module _ (file : List ℕ) (p : ℕ) (ls : List (List ℕ)) (xs : List Node) (ag
   stands_for_lem : (n : ℕ) (f : Formula) → Stands ls xs n f → formula_at file p n ≡ f
   unfolding Stands
   stands_for_lem n (both f g) (e, s, t) =
-      of_and file p (length ls) xs agree right n (kind-within xs n (λ z. omega arith)) e ∙ ap₂ both (stands_for_lem _ f s) (stands_for_lem _ g t)
-  stands_for_lem n (neg f) (e, s) = of_not file p (length ls) xs agree right n (kind-within xs n (λ z. omega arith)) e ∙ ap neg (stands_for_lem _ f s)
+      of_and file p (length ls) xs agree right n (kind-within xs n (λ z. omega arith)) e ∙ ap₂ both (stands_for_lem (node_of xs n).a f s) (stands_for_lem (node_of xs n).b g t)
+  stands_for_lem n (neg f) (e, s) = of_not file p (length ls) xs agree right n (kind-within xs n (λ z. omega arith)) e ∙ ap neg (stands_for_lem (node_of xs n).a f s)
   stands_for_lem n (exists v f) (e, a, s) =
-      of_some file p (length ls) xs agree right n (kind-within xs n (λ z. omega arith)) e ∙ ap₂ exists a (stands_for_lem _ f s)
+      of_some file p (length ls) xs agree right n (kind-within xs n (λ z. omega arith)) e ∙ ap₂ exists a (stands_for_lem (node_of xs n).b f s)
   stands_for_lem n (has v l) (e, a, b) =
       let h = kind-within xs n (λ z. omega arith) in
       of_has file p (length ls) xs agree right n h e ∙ ap₂ has a (listed _ (at_label n (right n h) e) ∙ b)

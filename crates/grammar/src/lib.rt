@@ -2,4 +2,3 @@
 // its parts, and a table of nodes is seen by which node names which. The laws say what the tests that compute tell of these. There is no
 // code here.
 #![tactic(auto)]
-

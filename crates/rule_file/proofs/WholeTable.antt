@@ -18,7 +18,6 @@ use Rattle.rules.specs.Checks.{field_names, fields_naming, node_names, times_nam
 use Rattle.rules.specs.declared.Node.{Node}
 use Rattle.rules.specs.declared.Vars.{Vars}
 use Rattle.rules.specs.declared.RuleRead.{RuleRead}
-use Rattle.rules.specs.declared.RuleRead.TheVariants as RuleRead
 use Rattle.rules.proofs.Formulas.{formula-and, formula_not, formula_some, formula-has, by_atom}
 
 -- ── 8: how often a node is named ──

@@ -21,7 +21,6 @@ use Rattle.rules.specs.Rules.{rule_of}
 use Rattle.rules.specs.declared.Node.{Node}
 use Rattle.rules.specs.declared.Read.TheVariants.{Refused}
 use Rattle.rules.specs.declared.RuleRead.{RuleRead}
-use Rattle.rules.specs.declared.RuleRead.TheVariants as RuleRead
 use Rattle.rules.proofs.Parts.{part_read, then-stop, then_same, count_read, more-follows}
 use Rattle.rules.proofs.Labels.{labels_read, place_low}
 use Rattle.rules.proofs.Nodes.{nodes_read}

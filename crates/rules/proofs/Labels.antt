@@ -2,18 +2,17 @@
 use Prim.Native.Nat.{ℕ, zero, suc, ◌+◌, ◌*◌, ◌-◌, ◌<◌, ◌≤◌}
 use mathlib.Core.Path.{◌≡◌, refl, sym, subst, ap, ap₂, ◌∙◌}
 use mathlib.Core.Bool.{Bool, true, false, not, ◌&&◌, or-true}
-use mathlib.Core.List.{List, [], ◌∷◌}
+use mathlib.Core.List.{List}
 use native.Mathlib.Omega.{arith}
 use native.Mathlib.Numerals.{add-one}
-use lib.Dec.{eqb, leb}
-use lib.ListN.{length, get_or, take, drop, drop_of_length-le, length-take, length-drop, length-map}
-use lib.Seq.{drop-cons, length-take-le}
-use borrow.Author.Tests.{eq-eqb, ne_eqb, le-leb, lt-leb, leb-true, not-true, not-false}
+use lib.Dec.{leb}
+use lib.ListN.{length, take, drop, length-take, length-drop, length-map}
+use lib.Seq.{length-take-le}
+use borrow.Author.Tests.{le-leb, lt-leb, leb-true, not-true, not-false}
 use Rattle.lists.specs.Lists.{same?}
 use Rattle.lists.proofs.Cases.{either_eq, no_both, and_left, and_right}
 use Rattle.lists.proofs.Lists.{same_refl}
 use Rattle.labels.specs.Label.{capital, capitals, max_label_bytes, label_length?, label_form?, label_of}
-use Rattle.labels.proofs.Capitals.{capitals_at_lem}
 use Rattle.labels.proofs.Form.{label?, form_label}
 use Rattle.labels.specs.declared.Label.{Label}
 use Rattle.rules.specs.Parts.{byte, part, and_then}

@@ -18,7 +18,6 @@ use Rattle.rules.specs.declared.Read.{Read}
 use Rattle.rules.specs.declared.Read.TheVariants.{At, Refused}
 use Rattle.rules.specs.declared.Rule.{Rule}
 use Rattle.rules.specs.declared.RuleRead.{RuleRead}
-use Rattle.rules.specs.declared.RuleRead.TheVariants as RuleRead
 use Rattle.rules.proofs.Parts.{not_at, part_read, then-stop, then_at, then_read, then-then, head_read, count_read, more-follows, none_follows}
 use Rattle.rules.proofs.Labels.{labels_read, place_low}
 use Rattle.rules.proofs.Nodes.{nodes_read}

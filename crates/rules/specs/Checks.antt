@@ -6,9 +6,7 @@ use Rattle.rules.specs.Parts.{label_count}
 use Rattle.rules.specs.Table.{Op, op_and, op_not, op_some, op_has, op_none, op_pair, op_of, node_at, formula_at}
 use Rattle.rules.specs.declared.Node.{Node}
 use Rattle.rules.specs.declared.Vars.{Vars}
-use Rattle.rules.specs.declared.Rule.{Rule}
 use Rattle.rules.specs.declared.RuleRead.{RuleRead}
-use Rattle.rules.specs.declared.RuleRead.TheVariants as RuleRead
 
 -- how often a field names node c: once if it is c
 abbrev pub field_names : ℕ → ℕ → ℕ

@@ -8,7 +8,6 @@ use Rattle.rules.specs.Table.{read_nodes, Good, formula_at}
 use Rattle.rules.specs.Checks.{named_once, whole_table}
 use Rattle.rules.specs.declared.Rule.{Rule}
 use Rattle.rules.specs.declared.RuleRead.{RuleRead}
-use Rattle.rules.specs.declared.RuleRead.TheVariants as RuleRead
 
 -- "the rule from its front, each part (mark, version, count, length byte, label bytes, node) first for 1 and then for its
 -- own fault, then 7, 8, 9, 10, each over the whole table"

@@ -1,5 +1,4 @@
 -- The labels passed differ from the one at hand; each ends before it starts.
-use Prim.Native.Nat.{◌-◌}
 use mathlib.Core.Path.{refl}
 use borrow.Author.Rules.{rules}
 use native.Mathlib.Omega.{arith}

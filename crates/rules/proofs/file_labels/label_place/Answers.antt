@@ -1,5 +1,4 @@
 -- The place at hand is that of label i; each label before label n stands in the file.
-use Prim.Native.Nat.{◌-◌}
 use borrow.Author.Rules.{rules}
 use native.Mathlib.Omega.{arith}
 use Rattle.rules.proofs.Labels.{place_first, place_next, place_end, label_room_lem}

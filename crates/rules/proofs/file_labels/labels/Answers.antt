@@ -1,5 +1,4 @@
 -- The labels passed are read, and the next one is at the place after them.
-use Prim.Native.Nat.{◌-◌}
 use mathlib.Core.Path.{refl}
 use borrow.Author.Rules.{rules}
 use Rattle.rules.specs.Labels.{read_labels}

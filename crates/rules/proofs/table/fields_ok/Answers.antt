@@ -16,8 +16,7 @@ pub returns-in-4 : goal.returns-in-4
 returns-in-4 c = search fields-has
 
 pub returns-in-5 : goal.returns-in-5
-returns-in-5 c = let r = c.in-5.rest in
-    fields_pair _ _ c.args.x _ c.within-in-5.ensures (omega (arith, c.if-kind-lt1.false, r.1, r.0.1, r.0.0.1, r.0.0.0.1)) (omega (arith, c.if-kind-lt9.true))
+returns-in-5 c = fields_pair _ _ c.args.x _ c.within-in-5.ensures (omega (arith, c.in-5)) (omega (arith, c.in-5))
 
 pub returns-in_default : goal.returns-in_default
 returns-in_default c = fields_zero _ _ c.args.x (omega arith)

@@ -1,5 +1,4 @@
 -- The nodes passed are read, and the next one is at the place after them.
-use Prim.Native.Nat.{◌-◌}
 use borrow.Author.Rules.{rules}
 use Rattle.rules.proofs.Nodes.{node_room, nodes_first, nodes_next, nodes_stop, nodes_end}
 use Rattle.rules.proofs.table.nodes.Goals as goal

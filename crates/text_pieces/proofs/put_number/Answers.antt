@@ -1,0 +1,15 @@
+use Rattle.text_pieces.proofs.Pieces.{number_one, number_two, number-three}
+use Rattle.text_pieces.proofs.put_number.Reads as reads
+use Rattle.text_pieces.proofs.put_number.Lts as lts
+use Rattle.text_pieces.proofs.last_digit.Reads as last-digit-reads
+use Rattle.text_pieces.proofs.put_byte.Reads as put-byte-reads
+use Rattle.text_pieces.proofs.put_number.Goals as goal
+
+pub returns-then-n-lt10 : goal.returns-then-n-lt10
+returns-then-n-lt10 c = search number_one
+
+pub returns-then-n-lt100 : goal.returns-then-n-lt100
+returns-then-n-lt100 c = search number_two
+
+pub returns : goal.returns
+returns c = search number-three

@@ -266,10 +266,10 @@ keep_some_returns t c =
     let s = c.before.before.before.before.before.before.before.before.before.before.before.before.before.before.before.before in
     let a = s.args in
     let ρ = binding a.b in
-    let each = c.before.before.before.before.before.before.before.before.rebound in
-    let started = c.before.before.before.before.before.before.before.before.before.before.set-each.ensures in
-    let e = c.before.before.before.before.before.before.keep-rows.ensures in
-    let d = c.before.before.meet-upward.ensures in (
+    let each = c.before.before.before.before.before.before.before.before.rebound-each in
+    let started = c.before.before.before.before.before.before.before.before.before.before.set_each.ensures in
+    let e = c.before.before.before.before.before.before.keep_rows.ensures in
+    let d = c.before.before.meet_upward.ensures in (
       d.long,
       λ M rows k l.
           let few : k < 128 = omega (arith, s.requires.1.0.0.runs_few) in

@@ -1,21 +1,18 @@
 -- Label tests, relations and `same`.
-use Prim.Native.Nat.{ℕ, ◌+◌, ◌<◌, ◌≤◌}
+use Prim.Native.Nat.{ℕ, ◌+◌, ◌≤◌}
 use mathlib.Core.Path.{◌≡◌, refl, ap, ◌∙◌}
-use mathlib.Core.Option.{Option, some}
-use mathlib.Core.List.{List, []}
+use mathlib.Core.List.{List}
 use native.Mathlib.Omega.{arith}
 use lib.ListN.{drop}
-use Rattle.signs.specs.Signs.{Got, sign, name, label}
-use Rattle.atoms.specs.Tree.{Tree, size}
+use Rattle.signs.specs.Signs.{sign, name, label}
+use Rattle.atoms.specs.Tree.{size}
 use Rattle.signs.specs.Signs.{open_sign, close_sign, comma_sign, less_sign, overlaps_sign, includes_sign, same_sign}
 use Rattle.atoms.specs.Atoms.{relation, read_same, read_has, read_pair, read_atom}
 use Rattle.atoms.specs.Emit.{level, put, emit}
 use Rattle.signs.specs.Finding.{FindsSign, ReadsWord}
-use Rattle.atoms.specs.Readers.{Done, Reads, Ready, ReadsAtom, Stored}
+use Rattle.atoms.specs.Readers.{ReadsAtom, Stored}
 use Rattle.signs.specs.declared.Found.{Found}
-use Rattle.signs.specs.declared.Found.TheVariants as Found
 use Rattle.signs.specs.declared.Word.{Word}
-use Rattle.signs.specs.declared.Word.TheVariants as Word
 use Rattle.atoms.specs.declared.Reading.{Reading}
 use Rattle.signs.proofs.Told.{found_sign, no_sign, found_word, no_word}
 use Rattle.atoms.proofs.Taken.{earlier}

@@ -1,5 +1,5 @@
 -- What the readers of rules answer, and what the answers mean.
-use Rattle.std.specs.Prelude.{ℕ, zero, suc, ◌+◌, ◌-◌, ◌*◌, ◌<◌, ◌≤◌, ◌≡◌, List, length, take, drop}
+use Rattle.std.specs.Prelude.{ℕ, zero, suc, ◌+◌, ◌-◌, ◌*◌, ◌≤◌, ◌≡◌, List, length, take, drop}
 use Rattle.signs.specs.Signs.{Got, read, outside}
 use Rattle.atoms.specs.Tree.{Tree, size}
 use Rattle.atoms.specs.Emit.{put, emit, inside as within}

@@ -1,11 +1,25 @@
 // Reading for the programs: the bytes of a file or of standard input, and whether a read failed.
 //
 // `fill` reads until a buffer is full, the input ends or a read fails, and tells the last two apart. `read_file` reads a file,
-// `read_rule` the rule file, and `complain` says on standard error that a read failed.
+// `read_rule` the rule file, and `complain` says on standard error that a read failed. Why it failed stands in the `why` that each of
+// them is lent. `fail` says the same of any call that failed, and `Streams` are the three streams that a program is given.
 #![tactic(auto)]
 
-ghost use Rattle.std.specs.Prelude.{◌≡◌, length};
+ghost use Rattle.std.specs.Prelude.{◌≡◌, length, min, ◌≤◌};
 ghost use Rattle.input.specs.Filled.{Fills, came_of, Brings};
+
+use std::fs::File;
+use std::io;
+use std::io::{Read, Stderr, Stdin, Stdout, Write};
+use std::rt::Files;
+
+// What a program reads, writes, and complains on.
+#[derive(Clone, Copy)]
+pub struct Streams {
+    pub input: Stdin,
+    pub output: Stdout,
+    pub error: Stderr,
+}
 
 // How many bytes stand at the start of the buffer, up to the end of the input or of the buffer; or a read failed.
 #[derive(Clone, Copy)]
@@ -22,34 +36,49 @@ enum Came {
     Failed,
 }
 
-// What the answer of a read into the buffer says. A read that fails is not the end of the input.
-fn came_of(got: isize, buf: &[u8]) -> Came
-    ensures { result ≡ came_of got (length buf.now) }
+// A number of the buffer's bytes: no more than there are.
+fn count(n: usize, buf: &[u8]) -> usize
+    ensures { result ≡ min n (length buf.now) }
 {
-    if got < 0 {
-        return Came::Failed;
+    if n <= buf.len() {
+        return n;
     }
-    if got == 0 {
-        return Came::Nothing;
-    }
-    Came::Some(io::count(got, buf))
+    buf.len()
 }
 
-// Reads once.
-fn read_some(fd: i32, buf: &mut [u8]) -> Came
+// What the answer of a read into the buffer says. A read that fails is not the end of the input.
+fn came_of(got: io::Result<usize>, buf: &[u8]) -> Came
+    ensures { result ≡ came_of got (length buf.now) }
+{
+    match got {
+        Err(_) => Came::Failed,
+        Ok(n) => {
+            if n == 0 {
+                return Came::Nothing;
+            }
+            Came::Some(count(n, buf))
+        }
+    }
+}
+
+// Reads once, and keeps why a read failed.
+fn read_some<R: Read>(from: &mut R, buf: &mut [u8], why: &mut Option<io::Error>) -> Came
     ensures { Brings result (length buf.old) }
 {
-    let got = libc::read(fd, buf);
+    let got = from.read(buf);
+    if let Err(e) = got {
+        *why = Some(e);
+    }
     came_of(got, buf)
 }
 
 // Reads until the buffer is full, the input ends or a read fails.
-pub fn fill(fd: i32, buf: &mut [u8]) -> Filled
+pub fn fill<R: Read>(from: &mut R, buf: &mut [u8], why: &mut Option<io::Error>) -> Filled
     ensures { Fills result buf.new }
 {
     let mut done: usize = 0;
     while done < buf.len() {
-        let came = read_some(fd, &mut buf[done..]);
+        let came = read_some(from, &mut buf[done..], why);
         match came {
             Came::Failed => return Filled::Failed,
             Came::Nothing => return Filled::Bytes(done),
@@ -62,32 +91,75 @@ pub fn fill(fd: i32, buf: &mut [u8]) -> Filled
 }
 
 // Puts the first bytes of the file with a name at the start of the buffer. One that can't be opened counts as no bytes.
-pub fn read_file(name: &[u8], buf: &mut [u8]) -> Filled
+pub fn read_file<F: Files>(
+    files: &F,
+    name: &[u8],
+    buf: &mut [u8],
+    why: &mut Option<io::Error>,
+) -> Filled
     ensures { Fills result buf.new }
 {
-    let fd = os::open_read(name);
-    if fd < 0 {
+    let Ok(path) = std::str::from_utf8(name) else {
         return Filled::Bytes(0);
+    };
+    match File::open(files, path) {
+        Err(_) => Filled::Bytes(0),
+        Ok(mut file) => fill(&mut file, buf, why),
     }
-    let a = fill(fd, buf);
-    libc::close(fd);
-    a
 }
 
 // Puts the first bytes of the file rule.rul at the start of the buffer, as `read_file` does.
-pub fn read_rule(buf: &mut [u8]) -> Filled
+pub fn read_rule<F: Files>(files: &F, buf: &mut [u8], why: &mut Option<io::Error>) -> Filled
     ensures { Fills result buf.new }
 {
-    read_file(b"rule.rul", buf)
+    read_file(files, b"rule.rul", buf, why)
 }
 
 // Says on standard error that a read failed, and why, if one did; the name is that of the program and of what it reads.
-pub fn complain(a: Filled, name: &[u8]) {
+pub fn complain(a: Filled, name: &[u8], why: Option<io::Error>, error: Stderr) {
     match a {
         Filled::Bytes(_) => return,
         Filled::Failed => {
-            os::fail(name);
+            fail(name, why, error);
             return;
         }
     }
+}
+
+// How many bytes of an error's text are told: those before the system's number for it, which std puts behind as ` (os error 21)`.
+fn told_len(text: &[u8]) -> usize
+    ensures { result ≤ length text.now }
+{
+    let Ok(whole) = std::str::from_utf8(text) else {
+        return text.len();
+    };
+    match whole.find(" (os error ") {
+        None => text.len(),
+        Some(n) => count(n, text),
+    }
+}
+
+// The text of an error at the start of the buffer, or as much of it as there is room for: its length.
+fn put_error(e: io::Error, buf: &mut [u8; 128]) -> usize
+    ensures { result ≤ 128 }
+{
+    let room = buf.len();
+    let mut rest = &mut buf[..];
+    let _ = write!(rest, "{e}");
+    let left = rest.len();
+    room.saturating_sub(left)
+}
+
+// Writes a line to standard error: what failed, as the caller names it, a colon and why.
+pub fn fail(what: &[u8], why: Option<io::Error>, error: Stderr) {
+    let mut text = [0u8; 128];
+    let size = match why {
+        None => 0,
+        Some(e) => put_error(e, &mut text),
+    };
+    let told = told_len(&text[..size]);
+    let _ = error.write_all(what);
+    let _ = error.write_all(b": ");
+    let _ = error.write_all(&text[..told]);
+    let _ = error.write_all(b"\n");
 }

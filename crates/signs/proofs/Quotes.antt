@@ -1,7 +1,7 @@
 -- The first quote from a place on, and a label between two.
-use Prim.Native.Nat.{ℕ, suc, ◌+◌, ◌-◌, ◌<◌, ◌≤◌}
-use mathlib.Core.Path.{◌≡◌, refl, sym, ap, ◌∙◌}
-use mathlib.Core.Bool.{Bool, true, false}
+use Prim.Native.Nat.{ℕ, ◌+◌, ◌-◌, ◌<◌, ◌≤◌}
+use mathlib.Core.Path.{◌≡◌, sym, ap, ◌∙◌}
+use mathlib.Core.Bool.{true, false}
 use mathlib.Core.List.{List, [], ◌∷◌}
 use native.Mathlib.Omega.{arith}
 use lib.ListN.{length, get_or, drop, drop_of_length-le, length-drop}
@@ -10,9 +10,7 @@ use Rattle.lists.specs.Lists.{has?, past}
 use Rattle.signs.specs.Signs.{sign, label}
 use Rattle.signs.specs.Finding.{FindsSign, ReadsWord, FindsQuote}
 use Rattle.signs.specs.declared.Found.{Found}
-use Rattle.signs.specs.declared.Found.TheVariants as Found
 use Rattle.signs.specs.declared.Word.{Word}
-use Rattle.signs.specs.declared.Word.TheVariants as Word
 use Rattle.signs.proofs.Places.{step}
 use Rattle.signs.proofs.Told.{found_sign, no_sign}
 

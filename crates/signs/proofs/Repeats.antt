@@ -1,15 +1,13 @@
 -- A sign that stands several times, one behind another.
-use Prim.Native.Nat.{ℕ, zero, suc, ◌+◌, ◌<◌, ◌≤◌}
+use Prim.Native.Nat.{ℕ, zero, suc, ◌+◌, ◌≤◌}
 use mathlib.Core.Path.{◌≡◌, refl, sym, subst}
-use mathlib.Core.Option.{Option, none, some}
 use mathlib.Core.List.{List}
 use native.Mathlib.Omega.{arith}
 use native.Mathlib.Numerals.{add-one}
-use lib.ListN.{length, drop}
+use lib.ListN.{drop}
 use Rattle.signs.specs.Signs.{sign}
 use Rattle.signs.specs.Finding.{FindsSign, Repeated, Marked, Runs}
 use Rattle.signs.specs.declared.Found.{Found}
-use Rattle.signs.specs.declared.Found.TheVariants as Found
 use Rattle.signs.proofs.Told.{found_sign, no_sign}
 
 module _ (text w : List ℕ) (at : ℕ) where

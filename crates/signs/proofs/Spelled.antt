@@ -12,7 +12,6 @@ use Rattle.lists.proofs.Cases.{either_eq}
 use Rattle.signs.specs.Signs.{Got, read, outside, capital?, word_byte?, name_more, name}
 use Rattle.signs.specs.Finding.{WordSays, ReadsWord, Behind}
 use Rattle.signs.specs.declared.Word.{Word}
-use Rattle.signs.specs.declared.Word.TheVariants as Word
 use Rattle.signs.proofs.Places.{step}
 
 module _ (k n b : ℕ) (s : List ℕ) where

@@ -8,9 +8,7 @@ use lib.ListN.{length, drop}
 use Rattle.signs.specs.Signs.{Got, read, outside}
 use Rattle.signs.specs.Finding.{SignSays, WordSays, FindsSign, ReadsWord}
 use Rattle.signs.specs.declared.Found.{Found}
-use Rattle.signs.specs.declared.Found.TheVariants as Found
 use Rattle.signs.specs.declared.Word.{Word}
-use Rattle.signs.specs.declared.Word.TheVariants as Word
 
 -- ── signs ──
 sign_found : (text : List ℕ) (at : ℕ) (o : Option (List ℕ)) (r : Found) (p : ℕ) → SignSays text at o r → r ≡ Found.At p → (o ≡ some (drop p text)) × (at < p) × (p ≤ length text)

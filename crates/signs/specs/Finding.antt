@@ -4,9 +4,7 @@ use Rattle.std.proofs.Math.Option.{Option, none, some}
 use Rattle.lists.specs.Lists.{has?, past}
 use Rattle.signs.specs.Signs.{Got, read, outside, skip, sign}
 use Rattle.signs.specs.declared.Found.{Found}
-use Rattle.signs.specs.declared.Found.TheVariants as Found
 use Rattle.signs.specs.declared.Word.{Word}
-use Rattle.signs.specs.declared.Word.TheVariants as Word
 use Rattle.signs.specs.declared.Run.{Run}
 
 -- a sign looked for at a place: found, and the place behind it

@@ -1,7 +1,5 @@
 -- The comparisons decide.
 use Rattle.signs.proofs.Bytes.{byte-tests}
-use Rattle.signs.proofs.is_blank.Reads as reads
-use Rattle.signs.proofs.is_blank.Lts as lts
 use Rattle.signs.proofs.is_blank.Goals as goal
 
 pub returns-then-b-eq32 : goal.returns-then-b-eq32

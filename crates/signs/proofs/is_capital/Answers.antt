@@ -1,7 +1,5 @@
 -- The comparisons decide.
 use Rattle.signs.proofs.Bytes.{byte-tests}
-use Rattle.signs.proofs.is_capital.Reads as reads
-use Rattle.signs.proofs.is_capital.Lts as lts
 use Rattle.signs.proofs.is_capital.Goals as goal
 
 pub returns-then-b-lt65 : goal.returns-then-b-lt65

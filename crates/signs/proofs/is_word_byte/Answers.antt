@@ -1,7 +1,5 @@
 -- The comparisons decide.
 use Rattle.signs.proofs.Bytes.{byte-tests}
-use Rattle.signs.proofs.is_word_byte.Reads as reads
-use Rattle.signs.proofs.is_word_byte.Lts as lts
 use Rattle.signs.proofs.is_word_byte.Goals as goal
 
 pub returns-then-b-lt48 : goal.returns-then-b-lt48

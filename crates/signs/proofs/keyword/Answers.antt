@@ -1,9 +1,5 @@
 -- The bytes passed agree.
 use Rattle.signs.proofs.Words.{agree_none, agree_more, word_short, word_other, word_found}
-use Prim.Native.Nat.{◌-◌}
-use Rattle.signs.proofs.keyword.Reads as reads
-use Rattle.signs.proofs.keyword.Lts as lts
-use Rattle.signs.proofs.skip.Reads as skip-reads
 use Rattle.signs.proofs.keyword.Goals as goal
 
 pub loop-i-init : goal.loop-i-init

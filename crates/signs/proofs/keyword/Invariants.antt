@@ -2,9 +2,6 @@
 use Rattle.signs.proofs.Words.{Agree}
 use lib.ListN.{length}
 use Prim.Native.Nat.{◌-◌}
-use Rattle.signs.proofs.keyword.Reads as reads
-use Rattle.signs.proofs.keyword.Lts as lts
-use Rattle.signs.proofs.skip.Reads as skip-reads
 use Rattle.signs.proofs.keyword.Given as goal
 
 abbrev pub invariant-loop-i : goal.invariant-loop-i

@@ -1,10 +1,5 @@
 -- A capital, and what goes on with it.
 use Rattle.signs.proofs.Spelled.{no_name_end, no_name-small, name_read}
-use Rattle.signs.proofs.name.Reads as reads
-use Rattle.signs.proofs.name.Lts as lts
-use Rattle.signs.proofs.is_capital.Reads as is-capital-reads
-use Rattle.signs.proofs.name_rest.Reads as name-rest-reads
-use Rattle.signs.proofs.skip.Reads as skip-reads
 use Rattle.signs.proofs.name.Goals as goal
 
 pub returns-then-text-p : goal.returns-then-text-p

@@ -1,12 +1,7 @@
 -- What is left of the name is that of the whole one.
 use Rattle.signs.proofs.Spelled.{named_first, fits, name-ended, name-stopped, name-long, name_goes}
-use Prim.Native.Nat.{◌-◌}
 use native.Mathlib.Omega.{arith}
 use borrow.Author.Rules.{rules}
-use Rattle.signs.proofs.name_rest.Reads as reads
-use Rattle.signs.proofs.name_rest.Lts as lts
-use Rattle.signs.proofs.is_word_byte.Reads as is-word-byte-reads
-use Rattle.signs.proofs.wide.Reads as wide-reads
 use Rattle.signs.proofs.name_rest.Goals as goal
 
 pub loop-i-init : goal.loop-i-init
@@ -25,7 +20,7 @@ pub overflow_add-n : goal.overflow_add-n
 overflow_add-n c = let v = c.loop-i.invariant in omega (arith, fits _ _ (omega (arith, v.high)) v.small, c.wide.ensures.1)
 
 pub loop-i-preserved : goal.loop-i-preserved
-loop-i-preserved c = name_goes _ _ _ _ c.loop-i.invariant _ c.is_word_byte.ensures (search rules) c.if-not-is_word_byte.false-raw c.if-i-eq8.false _ c.wide.ensures
+loop-i-preserved c = name_goes _ _ _ _ c.loop-i.invariant _ c.is_word_byte.ensures (search rules) (search rules) c.if-i-eq8.false _ c.wide.ensures
 
 pub returns : goal.returns
 returns c = search name-ended

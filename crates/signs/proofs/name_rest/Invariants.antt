@@ -2,10 +2,6 @@
 use Rattle.signs.proofs.Spelled.{Named}
 use lib.ListN.{length}
 use Prim.Native.Nat.{◌+◌, ◌-◌}
-use Rattle.signs.proofs.name_rest.Reads as reads
-use Rattle.signs.proofs.name_rest.Lts as lts
-use Rattle.signs.proofs.is_word_byte.Reads as is-word-byte-reads
-use Rattle.signs.proofs.wide.Reads as wide-reads
 use Rattle.signs.proofs.name_rest.Given as goal
 
 abbrev pub invariant-loop-i : goal.invariant-loop-i

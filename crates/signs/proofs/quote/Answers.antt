@@ -1,10 +1,7 @@
 -- No quote is passed.
 use Rattle.signs.proofs.Quotes.{quote_found, quote_passed, quote_none}
 use mathlib.Core.Path.{refl}
-use Prim.Native.Nat.{◌-◌}
 use native.Mathlib.Omega.{arith}
-use Rattle.signs.proofs.quote.Reads as reads
-use Rattle.signs.proofs.quote.Lts as lts
 use Rattle.signs.proofs.quote.Goals as goal
 
 pub loop-i-init : goal.loop-i-init

@@ -2,8 +2,6 @@
 use Rattle.signs.proofs.Quotes.{Unquoted}
 use lib.ListN.{length}
 use Prim.Native.Nat.{◌-◌}
-use Rattle.signs.proofs.quote.Reads as reads
-use Rattle.signs.proofs.quote.Lts as lts
 use Rattle.signs.proofs.quote.Given as goal
 
 abbrev pub invariant-loop-i : goal.invariant-loop-i

@@ -1,11 +1,7 @@
 -- The sign is found one time more, or not.
-use Prim.Native.Nat.{◌-◌}
 use borrow.Author.Rules.{rules}
 use Rattle.signs.proofs.Told.{found_sign}
 use Rattle.signs.proofs.Repeats.{marked_none, marked_more, run_ended, run_full}
-use Rattle.signs.proofs.repeated.Reads as reads
-use Rattle.signs.proofs.repeated.Lts as lts
-use Rattle.signs.proofs.sign.Reads as sign_reads
 use Rattle.signs.proofs.repeated.Goals as goal
 
 pub loop-n-init : goal.loop-n-init
@@ -15,7 +11,7 @@ pub returns-in_default : goal.returns-in_default
 returns-in_default c = search run_ended
 
 pub loop-n-preserved : goal.loop-n-preserved
-loop-n-preserved c = (search marked_more, search rules, (found_sign _ _ _ _ _ c.sign-mark.ensures c.sign-mark.given.1).2)
+loop-n-preserved c = (search marked_more, search rules, (found_sign _ _ _ _ _ c.sign-mark.ensures c.in-At.is).2)
 
 pub returns : goal.returns
 returns c = search run_full

@@ -3,9 +3,6 @@ use Prim.Native.Nat.{◌≤◌, ◌-◌}
 use mathlib.Core.List.{[], ◌∷◌}
 use lib.ListN.{length}
 use Rattle.signs.specs.Finding.{Marked}
-use Rattle.signs.proofs.repeated.Reads as reads
-use Rattle.signs.proofs.repeated.Lts as lts
-use Rattle.signs.proofs.sign.Reads as sign_reads
 use Rattle.signs.proofs.repeated.Given as goal
 
 abbrev pub invariant-loop-n : goal.invariant-loop-n

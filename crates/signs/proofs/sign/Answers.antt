@@ -1,8 +1,5 @@
 -- One byte is compared at the place of the next sign.
 use Rattle.signs.proofs.Places.{one-sign}
-use Rattle.signs.proofs.sign.Reads as reads
-use Rattle.signs.proofs.sign.Lts as lts
-use Rattle.signs.proofs.skip.Reads as skip-reads
 use Rattle.signs.proofs.sign.Goals as goal
 
 pub returns-then-text-p : goal.returns-then-text-p

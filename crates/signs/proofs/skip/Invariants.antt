@@ -2,9 +2,6 @@ use Prim.Native.Nat.{◌≤◌, ◌-◌}
 use mathlib.Core.Path.{◌≡◌}
 use lib.ListN.{length, drop}
 use Rattle.signs.specs.Signs.{skip}
-use Rattle.signs.proofs.skip.Reads as reads
-use Rattle.signs.proofs.skip.Lts as lts
-use Rattle.signs.proofs.is_blank.Reads as is-blank-reads
 use Rattle.signs.proofs.skip.Given as goal
 
 -- What is passed is spaces and LFs.

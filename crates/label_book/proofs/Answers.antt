@@ -1,13 +1,13 @@
 -- The answers of the two calls, by what their parts answered.
 use Prim.Native.Nat.{ℕ, ◌+◌, ◌-◌, ◌≤◌, ◌<◌}
 use mathlib.Core.Path.{◌≡◌, refl, ap, sym, subst, ◌∙◌}
-use mathlib.Core.Bool.{Bool, true, false, not, ◌&&◌, cond}
+use mathlib.Core.Bool.{Bool, true, false, not}
 use mathlib.Core.Option.{Option, none, some}
-use mathlib.Core.List.{List, [], ◌∷◌}
+use mathlib.Core.List.{List, []}
 use native.Mathlib.Omega.{arith}
 use borrow.Author.Tests.{leb-true, le-leb}
 use lib.Dec.{leb}
-use lib.ListN.{length, take, drop, length-drop}
+use lib.ListN.{length, drop, length-drop}
 use lib.Seq.{length-take-le}
 use denote.Ref.{Bor}
 use Rattle.lists.proofs.Cases.{either_bool, no_both, never}
@@ -19,7 +19,7 @@ use Rattle.label_book.specs.declared.Piece.{Piece}
 use Rattle.label_book.specs.declared.Piece.TheVariants.{InBook, InLog, Refused}
 use Rattle.label_book.specs.Book.{Entry}
 use Rattle.label_book.specs.Reading.{book_of, text_from, listing, look_up}
-use Rattle.label_book.specs.Piece.{piece_at, label_at?, bytes_inside, piece_of, without_label, piece_for, LiesInside, TellsPiece, SliceOf, StandsIn, Hands}
+use Rattle.label_book.specs.Piece.{piece_at, label_at?, bytes_inside, without_label, piece_for, TellsPiece, SliceOf, Hands}
 use Rattle.label_book.proofs.Texts.{never_no_book}
 use Rattle.label_book.proofs.Meaning.{no_lines, other_piece, label_piece, places}
 

@@ -1,10 +1,10 @@
 -- Laws of the lines of a book: the next line and what follows it. Nothing outside this file looks at the count of bytes to be skipped.
-use Prim.Native.Nat.{ℕ, zero, suc, ◌+◌, ◌-◌, ◌≤◌, ◌<◌}
-use mathlib.Core.Path.{◌≡◌, refl, ap, sym, ◌∙◌}
-use mathlib.Core.Option.{Option, none, some}
+use Prim.Native.Nat.{ℕ, zero, suc, ◌+◌, ◌<◌}
+use mathlib.Core.Path.{◌≡◌, refl, ap}
+use mathlib.Core.Option.{none, some}
 use mathlib.Core.List.{List, [], ◌∷◌}
 use native.Mathlib.Omega.{arith}
-use lib.ListN.{length, take, drop, length-append}
+use lib.ListN.{length, drop, length-append}
 use Rattle.label_book.specs.declared.Line.{Line}
 use Rattle.label_book.specs.declared.Line.TheVariants.{Read, Bad}
 use Rattle.label_book.specs.Book.{Entry, entry_bytes}

@@ -1,11 +1,11 @@
 -- The bytes of a piece of the log: where they lie, and none where they do not all lie inside.
 use Prim.Native.Nat.{ℕ, ◌+◌, ◌-◌, ◌≤◌, ◌<◌}
-use mathlib.Core.Path.{◌≡◌, refl, ap}
-use mathlib.Core.List.{List, []}
+use mathlib.Core.Path.{◌≡◌, ap}
+use mathlib.Core.List.{List}
 use native.Mathlib.Omega.{arith}
 use borrow.Author.Tests.{le-leb, lt-leb}
 use lib.ListN.{length, take, drop}
-use Rattle.label_book.specs.Piece.{piece_at, bytes_inside}
+use Rattle.label_book.specs.Piece.{bytes_inside}
 
 module _ (log : List ℕ) (p n : ℕ) where
   pub behind_end : length log < p → take (0 - 0) (drop 0 log) ≡ bytes_inside log p n

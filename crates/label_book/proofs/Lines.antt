@@ -13,7 +13,6 @@ use lib.Seq.{drop-cons, take_all}
 use Rattle.lists.proofs.Cases.{either_lt, never, no_both}
 use Rattle.labels.specs.Label.{letter?, capital, label_length?}
 use Rattle.lines.proofs.Scans.{said_no, said_yes}
-use Rattle.label_book.specs.declared.Line.{Line}
 use Rattle.label_book.specs.declared.Line.TheVariants.{Read, Bad}
 use Rattle.label_book.specs.Reading.{label_byte?, text_byte?, fits?, span, line?, label_span, text_span, line_of}
 

@@ -3,9 +3,9 @@
 use Prim.Native.Nat.{ℕ, ◌+◌, ◌≤◌, ◌<◌}
 use mathlib.Core.Path.{◌≡◌, refl, ap, sym, subst, ◌∙◌}
 use mathlib.Core.Logic.{◌↔◌}
-use mathlib.Core.Bool.{Bool, true, false, ◌&&◌, cond}
+use mathlib.Core.Bool.{Bool, true, false, cond}
 use mathlib.Core.Option.{Option, none, some}
-use mathlib.Core.List.{List, [], ◌∷◌, ◌++◌}
+use mathlib.Core.List.{List, [], ◌∷◌}
 use native.Mathlib.Omega.{arith}
 use borrow.Author.Tests.{le-leb, leb-true}
 use lib.Dec.{leb}
@@ -18,9 +18,9 @@ use Rattle.label_book.specs.declared.Listing.{Listing}
 use Rattle.label_book.specs.declared.Listing.TheVariants.{Text, Missing, NoBook}
 use Rattle.label_book.specs.declared.Piece.{Piece}
 use Rattle.label_book.specs.declared.Piece.TheVariants.{InBook, InLog, Refused}
-use Rattle.label_book.specs.Book.{Entry, no_entry, book_bytes, RightEntry, LabelsRise, Book, TextAt}
+use Rattle.label_book.specs.Book.{Entry, no_entry, RightEntry, LabelsRise, Book, TextAt}
 use Rattle.label_book.specs.Reading.{entries_from, rising_from?, put_in_order, book_of, text_from}
-use Rattle.label_book.specs.Piece.{piece_at, LabelAt, MetPiece, no_book, no_label, TextOfBook, BytesOfLog, PieceMeans, label_at?, piece_of, piece_in, piece_for, LiesInside, TellsPiece}
+use Rattle.label_book.specs.Piece.{piece_at, LabelAt, MetPiece, no_book, no_label, TextOfBook, BytesOfLog, PieceMeans, label_at?, piece_of, piece_for, LiesInside, TellsPiece}
 use Rattle.label_book.proofs.Order.{rising_is}
 use Rattle.label_book.proofs.Texts.{never_no_book, text_missing, text_listed}
 use Rattle.label_book.proofs.Written.{entries_written, text_some, text_within}

@@ -1,20 +1,19 @@
 -- In another case the answer is the same: of a log, and of a book's labels.
-use Prim.Native.Nat.{ℕ, zero, suc, ◌+◌, ◌<◌, ◌≤◌}
+use Prim.Native.Nat.{ℕ, suc, ◌+◌}
 use mathlib.Core.Path.{◌≡◌, refl, ap, ap₂, sym, ◌∙◌}
 use mathlib.Core.Bool.{Bool, ◌&&◌, cond}
 use mathlib.Core.Option.{Option, none, some}
 use mathlib.Core.List.{List, [], ◌∷◌}
 use native.Mathlib.Omega.{arith}
 use lib.Dec.{leb}
-use lib.ListN.{length, take, drop, get_or, length-map}
+use lib.ListN.{length, take, drop, length-map}
 use Rattle.lists.specs.Lists.{same?}
 use Rattle.labels.specs.Label.{capital, capitals, label_form?}
 use Rattle.labels.proofs.Capitals.{capitals-take, capitals-drop}
 use Rattle.label_book.specs.declared.Listing.{Listing}
 use Rattle.label_book.specs.declared.Listing.TheVariants.{Text}
-use Rattle.label_book.specs.declared.Piece.{Piece}
 use Rattle.label_book.specs.declared.Piece.TheVariants.{Refused}
-use Rattle.label_book.specs.Book.{Entry, no_entry, entry_bytes, capitals_at, SameButCase}
+use Rattle.label_book.specs.Book.{Entry, entry_bytes, SameButCase}
 use Rattle.label_book.specs.Reading.{book_of, text_from}
 use Rattle.label_book.specs.Piece.{piece_at, label_at?, piece_of, piece_in, piece_for}
 use Rattle.label_book.proofs.Entries.{entry_length}

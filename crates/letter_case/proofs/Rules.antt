@@ -23,7 +23,6 @@ use Rattle.rules.specs.declared.Node.{Node}
 use Rattle.rules.specs.declared.Read.TheVariants.{Refused}
 use Rattle.rules.specs.declared.Rule.{Rule}
 use Rattle.rules.specs.declared.RuleRead.{RuleRead}
-use Rattle.rules.specs.declared.RuleRead.TheVariants as RuleRead
 use Rattle.rules.proofs.Parts.{then_same, count_read}
 use Rattle.rules.proofs.Labels.{place_below, place_high, labels_read}
 use Rattle.rules.proofs.Rules.{rule_taken}

@@ -14,7 +14,6 @@ use Rattle.lists.specs.Lists.{has?, past, up_to}
 use Rattle.lists.proofs.Cases.{either_eq, either_bool, no_both, never}
 use Rattle.labels.specs.Label.{capital, capitals}
 use Rattle.labels.proofs.Capitals.{capital_sign, capitals-drop, capitals_up}
-use Rattle.rules.specs.Formula as Formula
 use Rattle.rules.specs.Formula.{Formula}
 use Rattle.signs.specs.Signs.{Got, read, outside, next, if_sign, blank?, skip, behind, sign, capital?, word_byte?, name_more, name_from, name, quoted, label, bar_sign, and_sign, not_sign, open_sign, close_sign, comma_sign, dot_sign, less_sign, overlaps_sign, includes_sign, exist_sign, same_sign}
 use Rattle.atoms.specs.Tree.{Tree, either, both, neg, exists, has, pair, either_all, both_all}

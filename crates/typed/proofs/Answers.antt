@@ -7,7 +7,7 @@ use lib.ListN.{length, take, drop}
 use Rattle.signs.specs.Signs.{Got}
 use Rattle.atoms.specs.Tree.{Tree, size}
 use Rattle.atoms.specs.Emit.{emit}
-use Rattle.atoms.specs.Readers.{Done, Reads}
+use Rattle.atoms.specs.Readers.{Reads}
 use Rattle.typed.specs.Parsing.{ReadsRule, ReadsMore}
 use Rattle.atoms.specs.declared.Reading.{Reading}
 use Rattle.atoms.proofs.Taken.{took}

@@ -1,25 +1,23 @@
 -- What each call in the cycle asks: that the unread text is shorter or the level lower, and that there is room.
 use Prim.Native.Nat.{ℕ, zero, suc, ◌+◌, ◌-◌, ◌*◌, ◌<◌, ◌≤◌}
 use mathlib.Core.Path.{◌≡◌, refl, ◌∙◌}
-use mathlib.Core.Option.{Option, none, some}
-use mathlib.Core.List.{List, []}
+use mathlib.Core.Option.{Option, none}
+use mathlib.Core.List.{List}
 use native.Mathlib.Omega.{arith}
 use lib.ListN.{length, take, drop}
 use lib.Seq.{length-take-le}
 use Rattle.signs.specs.Signs.{Got, sign}
 use Rattle.atoms.specs.Tree.{Tree}
-use Rattle.signs.specs.Finding.{FindsSign, ReadsWord, Behind, Repeated, Marked, Runs}
+use Rattle.signs.specs.Finding.{FindsSign, ReadsWord, Behind, Repeated, Runs}
 use Rattle.atoms.specs.Readers.{Ready, Stored, Enters}
 use Rattle.typed.specs.Parsing.{Begins, ReadsRule, ReadsMore}
 use Rattle.signs.specs.declared.Found.{Found}
-use Rattle.signs.specs.declared.Found.TheVariants as Found
 use Rattle.signs.specs.declared.Run.{Run}
 use Rattle.signs.specs.declared.Word.{Word}
-use Rattle.signs.specs.declared.Word.TheVariants as Word
 use Rattle.atoms.specs.declared.Reading.{Reading}
 use Rattle.signs.proofs.Told.{found_sign, found_word}
 use Rattle.signs.proofs.Repeats.{marked_far}
-use Rattle.typed.proofs.Answers.{rule_place, more_place, Place}
+use Rattle.typed.proofs.Answers.{rule_place, more_place}
 
 -- a reader that goes on at place p with n nodes, at level j of the grammar, below the measure t
 pub record Next (text : List ℕ) (p : ℕ) (ns : List ℕ) (d n : ℕ) (m : List ℕ) (j t : ℕ) : Type 0 where

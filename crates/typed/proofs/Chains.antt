@@ -1,24 +1,22 @@
 -- An or, and an and: one operand, and the further ones behind it.
 use Prim.Native.Nat.{ℕ, ◌+◌, ◌-◌, ◌<◌, ◌≤◌}
 use mathlib.Core.Path.{◌≡◌, refl, ap, ◌∙◌}
-use mathlib.Core.Bool.{Bool}
-use mathlib.Core.Option.{Option, none, some}
-use mathlib.Core.List.{List, [], ◌∷◌}
+use mathlib.Core.Option.{none}
+use mathlib.Core.List.{List, ◌∷◌}
 use native.Mathlib.Omega.{arith}
 use lib.ListN.{length, take, drop}
-use Rattle.signs.specs.Signs.{Got, sign, bar_sign, and_sign}
+use Rattle.signs.specs.Signs.{sign, bar_sign, and_sign}
 use Rattle.atoms.specs.Tree.{Tree, size, either_all, both_all}
 use Rattle.typed.specs.Grammar.{read_or, more_or, read_and, more_and, read_not}
 use Rattle.atoms.specs.Emit.{put, close_or, emit, or_size, and_size, emit_ors, emit_ands}
 use Rattle.signs.specs.Finding.{FindsSign, Behind}
-use Rattle.atoms.specs.Readers.{Done, Reads, Stored}
+use Rattle.atoms.specs.Readers.{Done, Stored}
 use Rattle.typed.specs.Parsing.{ReadsRule, ReadsMore}
 use Rattle.signs.specs.declared.Found.{Found}
-use Rattle.signs.specs.declared.Found.TheVariants as Found
 use Rattle.atoms.specs.declared.Reading.{Reading}
 use Rattle.signs.proofs.Told.{found_sign, no_sign}
 use Rattle.atoms.proofs.Taken.{took, lost, carry}
-use Rattle.typed.proofs.Answers.{Place, rule_place, rule_by, more_by, more-named}
+use Rattle.typed.proofs.Answers.{rule_place, rule_by, more_by, more-named}
 use Rattle.typed.proofs.Passed.{behind-and}
 use Rattle.typed.proofs.Emitted.{ors_size, ands_size, ors_emit, ands_emit}
 

@@ -1,19 +1,17 @@
 -- Brackets: those that open one behind another, and what closes them.
 use Prim.Native.Nat.{ℕ, zero, suc, ◌-◌, ◌<◌, ◌≤◌}
 use mathlib.Core.Path.{◌≡◌, refl, sym, subst, ◌∙◌}
-use mathlib.Core.Option.{Option, none, some}
+use mathlib.Core.Option.{none, some}
 use mathlib.Core.List.{List, []}
 use native.Mathlib.Omega.{arith}
 use lib.ListN.{length, take, drop, length-drop}
-use Rattle.signs.specs.Signs.{Got, read, outside, sign, open_sign, close_sign, and_sign, bar_sign}
-use Rattle.atoms.specs.Tree.{Tree, size}
+use Rattle.signs.specs.Signs.{sign, open_sign, close_sign, and_sign, bar_sign}
+use Rattle.atoms.specs.Tree.{size}
 use Rattle.atoms.specs.Emit.{emit, or_size, and_size, emit_ors, emit_ands}
 use Rattle.typed.specs.Grammar.{read_or, more_or, read_and, more_and, read_not, read_operand}
-use Rattle.signs.specs.Finding.{FindsSign, Repeated, Marked, Runs}
-use Rattle.atoms.specs.Readers.{Done, Reads}
+use Rattle.signs.specs.Finding.{FindsSign, Repeated, Runs}
 use Rattle.typed.specs.Parsing.{ReadsRule, ReadsMore, Within, Closes}
 use Rattle.signs.specs.declared.Found.{Found}
-use Rattle.signs.specs.declared.Found.TheVariants as Found
 use Rattle.signs.specs.declared.Run.{Run}
 use Rattle.atoms.specs.declared.Reading.{Reading}
 use Rattle.signs.proofs.Told.{found_sign, no_sign}

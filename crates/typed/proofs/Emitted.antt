@@ -1,10 +1,10 @@
 -- The nodes of operands in a row are those of the tree that groups them to the left.
-use Prim.Native.Nat.{ℕ, ◌+◌, ◌-◌, ◌≤◌}
-use mathlib.Core.Path.{◌≡◌, refl, sym, ap, ◌∙◌}
+use Prim.Native.Nat.{ℕ, ◌+◌}
+use mathlib.Core.Path.{◌≡◌, refl, ap, ◌∙◌}
 use mathlib.Core.List.{List, [], ◌∷◌}
 use native.Mathlib.Omega.{arith}
-use Rattle.atoms.specs.Tree.{Tree, either, both, neg, exists, has, pair, size, either_all, both_all}
-use Rattle.atoms.specs.Emit.{put, close_or, emit, or_size, and_size, emit_ors, emit_ands}
+use Rattle.atoms.specs.Tree.{Tree, either, both, size, either_all, both_all}
+use Rattle.atoms.specs.Emit.{emit, or_size, and_size, emit_ors, emit_ands}
 
 pub ors_size : (l : Tree) (ts : List Tree) → size (either_all l ts) ≡ size l + or_size ts
 ors_size l [] = omega arith

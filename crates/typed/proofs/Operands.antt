@@ -1,25 +1,22 @@
 -- Nots, an exist, and a rule without a rule inside.
 use Prim.Native.Nat.{ℕ, zero, suc, ◌+◌, ◌-◌, ◌<◌, ◌≤◌}
 use mathlib.Core.Path.{◌≡◌, refl, sym, subst, ap, ◌∙◌}
-use mathlib.Core.Bool.{Bool}
-use mathlib.Core.Option.{Option, none, some}
-use mathlib.Core.List.{List, []}
+use mathlib.Core.Option.{none, some}
+use mathlib.Core.List.{List}
 use native.Mathlib.Omega.{arith}
 use lib.ListN.{length, take, drop}
 use lib.Seq.{take-take, length-take-le}
-use Rattle.signs.specs.Signs.{Got, read, sign, name, not_sign, exist_sign, open_sign, comma_sign, dot_sign}
-use Rattle.atoms.specs.Tree.{Tree, size}
+use Rattle.signs.specs.Signs.{sign, name, not_sign, exist_sign, open_sign, comma_sign, dot_sign}
+use Rattle.atoms.specs.Tree.{size}
 use Rattle.atoms.specs.Atoms.{read_atom}
 use Rattle.typed.specs.Grammar.{read_or, read_not, read_some, read_body, read_operand}
 use Rattle.atoms.specs.Emit.{inside as within, put, emit}
-use Rattle.signs.specs.Finding.{FindsSign, ReadsWord, Repeated, Marked, Runs}
-use Rattle.atoms.specs.Readers.{Done, Reads, ReadsAtom, Stored, Enters, put_nots}
+use Rattle.signs.specs.Finding.{FindsSign, ReadsWord, Repeated, Runs}
+use Rattle.atoms.specs.Readers.{ReadsAtom, Stored, Enters, put_nots}
 use Rattle.typed.specs.Parsing.{Begins, ReadsRule}
 use Rattle.signs.specs.declared.Found.{Found}
-use Rattle.signs.specs.declared.Found.TheVariants as Found
 use Rattle.signs.specs.declared.Run.{Run}
 use Rattle.signs.specs.declared.Word.{Word}
-use Rattle.signs.specs.declared.Word.TheVariants as Word
 use Rattle.atoms.specs.declared.Reading.{Reading}
 use Rattle.signs.proofs.Told.{found_sign, no_sign, found_word, no_word}
 use Rattle.atoms.proofs.Taken.{took, lost, earlier}

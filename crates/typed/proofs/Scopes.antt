@@ -1,19 +1,17 @@
 -- What a name is bound in: an exist that is next, and what follows it.
 use Prim.Native.Nat.{ℕ}
 use mathlib.Core.Path.{◌≡◌}
-use mathlib.Core.Option.{Option, none}
-use mathlib.Core.List.{List, []}
+use mathlib.Core.Option.{none}
+use mathlib.Core.List.{List}
 use native.Mathlib.Omega.{arith}
 use lib.ListN.{take, drop}
 use Rattle.signs.specs.Signs.{sign, bar_sign, and_sign, not_sign, exist_sign}
-use Rattle.atoms.specs.Tree.{Tree, size}
+use Rattle.atoms.specs.Tree.{size}
 use Rattle.atoms.specs.Emit.{emit, or_size, and_size, emit_ors, emit_ands}
 use Rattle.typed.specs.Grammar.{read_or, more_or, more_and, read_not, read_some}
 use Rattle.signs.specs.Finding.{FindsSign}
-use Rattle.atoms.specs.Readers.{Reads}
 use Rattle.typed.specs.Parsing.{ReadsRule, ReadsMore}
 use Rattle.signs.specs.declared.Found.{Found}
-use Rattle.signs.specs.declared.Found.TheVariants as Found
 use Rattle.atoms.specs.declared.Reading.{Reading}
 use Rattle.signs.proofs.Told.{found_sign}
 use Rattle.atoms.proofs.Taken.{earlier}

@@ -1,23 +1,21 @@
 -- A whole text: one rule, and nothing but spaces and LFs behind it.
 use Prim.Native.Nat.{ℕ, ◌+◌, ◌*◌, ◌<◌, ◌≤◌}
 use mathlib.Core.Path.{◌≡◌, refl}
-use mathlib.Core.Option.{Option}
 use mathlib.Core.List.{List, []}
 use native.Mathlib.Omega.{arith}
 use lib.ListN.{length, drop_of_length-le}
 use borrow.Author.Tests.{lt-ltb, le-ltb}
-use Rattle.signs.specs.Signs.{Got, outside}
-use Rattle.atoms.specs.Tree.{Tree, size}
-use Rattle.typed.specs.Grammar.{read_or, whole, tree_of, read_text}
+use Rattle.signs.specs.Signs.{outside}
+use Rattle.atoms.specs.Tree.{size}
+use Rattle.typed.specs.Grammar.{read_or, tree_of, read_text}
 use Rattle.atoms.specs.Emit.{emit}
 use Rattle.signs.specs.Finding.{Behind}
 use Rattle.typed.specs.Parsing.{ReadsRule, Parses}
 use Rattle.atoms.specs.declared.Reading.{Reading}
 use Rattle.typed.specs.declared.Parsed.{Parsed}
-use Rattle.typed.specs.declared.Parsed.TheVariants as Parsed
 use Rattle.signs.proofs.Places.{step}
 use Rattle.atoms.proofs.Taken.{took, lost}
-use Rattle.typed.proofs.Answers.{Place, rule_place}
+use Rattle.typed.proofs.Answers.{rule_place}
 
 pub text_long : (text b : List ℕ) → 4096 < length text → Parses text b Parsed.Outside b
 unfolding read_text

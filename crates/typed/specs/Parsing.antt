@@ -9,7 +9,6 @@ use Rattle.atoms.specs.Readers.{Reads}
 use Rattle.atoms.specs.declared.Reading.{Reading}
 use Rattle.typed.specs.Grammar.{read_not, read_text}
 use Rattle.typed.specs.declared.Parsed.{Parsed}
-use Rattle.typed.specs.declared.Parsed.TheVariants as Parsed
 
 -- What each reader asks: a place in a text of at most 4,096 bytes, 64 words of which the first d are the names bound around it, no
 -- more nodes than bytes read allow, and a whole table.

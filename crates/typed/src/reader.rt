@@ -18,7 +18,7 @@ use atoms::nodes::{close_or, put, put_nots};
 use signs::{Found, Word, exist_sign, name, repeated, sign, skip};
 
 // A whole rule: one or more ands, with bars between them.
-#[cycle(and_rest_and_rule_closes_not_rule_operand_or_rest_or_rule_scope_some_body_some_rule)]
+#[cycle(readers)]
 pub fn or_rule(
     text: &[u8],
     at: usize,
@@ -42,7 +42,7 @@ pub fn or_rule(
 }
 
 // The further sides of an or, behind one that ends before node k.
-#[cycle(and_rest_and_rule_closes_not_rule_operand_or_rest_or_rule_scope_some_body_some_rule)]
+#[cycle(readers)]
 fn or_rest(
     text: &[u8],
     at: usize,
@@ -71,7 +71,7 @@ fn or_rest(
 }
 
 // One or more nots, with `&` between them.
-#[cycle(and_rest_and_rule_closes_not_rule_operand_or_rest_or_rule_scope_some_body_some_rule)]
+#[cycle(readers)]
 fn and_rule(
     text: &[u8],
     at: usize,
@@ -98,7 +98,7 @@ fn and_rule(
 }
 
 // The further sides of an and, behind one that ends before node k.
-#[cycle(and_rest_and_rule_closes_not_rule_operand_or_rest_or_rule_scope_some_body_some_rule)]
+#[cycle(readers)]
 fn and_rest(
     text: &[u8],
     at: usize,
@@ -126,7 +126,7 @@ fn and_rest(
 }
 
 // An operand with any number of `!` before it.
-#[cycle(and_rest_and_rule_closes_not_rule_operand_or_rest_or_rule_scope_some_body_some_rule)]
+#[cycle(readers)]
 fn not_rule(
     text: &[u8],
     at: usize,
@@ -152,7 +152,7 @@ fn not_rule(
 }
 
 // Where no `!` is next: an "exist", a rule in brackets, or one without a rule inside.
-#[cycle(and_rest_and_rule_closes_not_rule_operand_or_rest_or_rule_scope_some_body_some_rule)]
+#[cycle(readers)]
 fn operand(
     text: &[u8],
     at: usize,
@@ -180,7 +180,7 @@ fn operand(
 }
 
 // Behind c open brackets and a first operand in the innermost, which ends before node k: what closes them.
-#[cycle(and_rest_and_rule_closes_not_rule_operand_or_rest_or_rule_scope_some_body_some_rule)]
+#[cycle(readers)]
 fn closes(
     text: &[u8],
     at: usize,
@@ -217,7 +217,7 @@ fn closes(
 }
 
 // Behind "exist" or a comma: a name, and what it is bound in.
-#[cycle(and_rest_and_rule_closes_not_rule_operand_or_rest_or_rule_scope_some_body_some_rule)]
+#[cycle(readers)]
 fn some_rule(
     text: &[u8],
     at: usize,
@@ -246,7 +246,7 @@ fn some_rule(
 }
 
 // Behind a name that is bound: further names, or the rule.
-#[cycle(and_rest_and_rule_closes_not_rule_operand_or_rest_or_rule_scope_some_body_some_rule)]
+#[cycle(readers)]
 fn some_body(
     text: &[u8],
     at: usize,
@@ -270,7 +270,7 @@ fn some_body(
 }
 
 // What a name is bound in: a whole rule. An "exist" that is next is read at once.
-#[cycle(and_rest_and_rule_closes_not_rule_operand_or_rest_or_rule_scope_some_body_some_rule)]
+#[cycle(readers)]
 fn scope(
     text: &[u8],
     at: usize,

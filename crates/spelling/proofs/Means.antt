@@ -1,29 +1,24 @@
 -- What the text of a formula says is the formula, with each variable the level of its "some"; and its text is the same.
-use Prim.Native.Nat.{ℕ, zero, suc, ◌+◌, ◌-◌, ◌*◌, ◌<◌, ◌≤◌}
-use mathlib.Core.Path.{◌≡◌, refl, sym, ap, ap₂, subst, ◌∙◌}
-use mathlib.Core.Bool.{Bool, true, false, ◌&&◌, ◌||◌, cond}
+use Prim.Native.Nat.{ℕ, zero, suc, ◌+◌, ◌<◌, ◌≤◌}
+use mathlib.Core.Path.{◌≡◌, refl, sym, ap, ap₂, ◌∙◌}
+use mathlib.Core.Bool.{true}
 use mathlib.Core.List.{List, [], ◌∷◌, ◌++◌, append_assoc}
 use native.Mathlib.Omega.{arith}
 use lib.Dec.{eqb}
-use lib.ListN.{length, drop, length-append}
-use lib.Seq.{drop_at}
-use borrow.Author.Tests.{eq-eqb, ne_eqb, eqb-true}
-use Rattle.lists.specs.Lists.{up_to}
-use Rattle.lists.proofs.Lists.{Free, up_seam}
-use Rattle.lists.proofs.Cases.{either_bool, either_eq, and_left, and_right, no_both}
+use lib.ListN.{length, length-append}
+use borrow.Author.Tests.{eq-eqb, eqb-true}
+use Rattle.lists.proofs.Cases.{either_bool, and_left, and_right}
 use Rattle.rules.specs.Formula as Formula
 use Rattle.rules.specs.Table.{pairing_of}
 use Rattle.rules.specs.Formula.{Pairing, Formula, Scope, enter, scoped, shallow}
-use Rattle.rules.proofs.Scopes.{scoped_both_left, scoped_both_right, scoped_neg, scoped_exists, shallow-both_left, shallow-both_right, shallow-neg, shallow-exists, shallow_none}
-use Rattle.atoms.specs.Tree as Tree
-use Rattle.atoms.specs.Tree.{Tree}
+use Rattle.rules.proofs.Scopes.{scoped_both_left, scoped_both_right, shallow-both_left, shallow-both_right, shallow_none}
 use Rattle.atoms.specs.Emit.{level_from, level, inside}
 use Rattle.typed_grammar.specs.Text.{letter}
 use Rattle.typed_grammar.proofs.CompleteSigns.{EndsIn, ends_on, label_said_lem}
 use Rattle.typed_grammar.specs.File.{pair_kind}
 use Rattle.spelling.specs.Written.{write_pair, write, said}
 use Rattle.levels.specs.Levels.{Levels, binds}
-use Rattle.typed_formula.specs.Meaning.{label_text, formula_for}
+use Rattle.typed_formula.specs.Meaning.{formula_for}
 use Rattle.levels.specs.Levels.{renamed}
 use Rattle.spelling.specs.Written.{letters}
 use Rattle.spelling.proofs.RoundTrip.{Plain}

@@ -1,24 +1,21 @@
 -- Reading the text of a formula gives back what the text says.
-use Prim.Native.Nat.{ℕ, zero, suc, ◌+◌, ◌-◌, ◌*◌, ◌<◌, ◌≤◌}
+use Prim.Native.Nat.{ℕ, zero, suc, ◌+◌, ◌-◌, ◌*◌, ◌≤◌}
 use mathlib.Core.Path.{◌≡◌, refl, sym, ap, subst, ◌∙◌}
-use mathlib.Core.Bool.{Bool, true, false}
-use mathlib.Core.Option.{Option, none, some}
+use mathlib.Core.Bool.{false}
+use mathlib.Core.Option.{none, some}
 use mathlib.Core.List.{List, [], ◌∷◌, ◌++◌}
 use native.Mathlib.Omega.{arith}
-use lib.Dec.{eqb}
 use lib.ListN.{length, length-append}
-use borrow.Author.Tests.{eq-eqb, ne_eqb, le-leb, lt-leb}
-use Rattle.lists.specs.Lists.{has?, past}
+use borrow.Author.Tests.{ne_eqb, le-leb}
 use Rattle.lists.proofs.Lists.{Free, has_seam, past_seam}
 use Rattle.labels.specs.Label.{capitals}
 use Rattle.rules.specs.Formula as Formula
 use Rattle.rules.specs.Formula.{Pairing, Formula}
-use Rattle.signs.specs.Signs.{Got, read, outside, blank?, skip, sign, capital?, word_byte?, name_more, name, label}
-use Rattle.atoms.specs.Tree as Tree
+use Rattle.signs.specs.Signs.{read, blank?, skip, sign, capital?, word_byte?, name_more, name, label}
 use Rattle.atoms.specs.Tree.{Tree}
-use Rattle.signs.specs.Signs.{not_sign, exist_sign, open_sign, close_sign, comma_sign, and_sign, bar_sign, same_sign}
+use Rattle.signs.specs.Signs.{not_sign, exist_sign, open_sign, and_sign, bar_sign}
 use Rattle.atoms.specs.Atoms.{relation, read_same, read_has, read_pair, read_atom}
-use Rattle.typed.specs.Grammar.{read_or, more_or, read_and, more_and, read_not, read_some, read_body, read_operand, tree_of, whole}
+use Rattle.typed.specs.Grammar.{read_or, read_and, read_not, tree_of, whole}
 use Rattle.typed_grammar.specs.Text.{letter}
 use Rattle.typed_grammar.specs.File.{pair_kind}
 use Rattle.spelling.specs.Written.{write_pair, write, said, deep}

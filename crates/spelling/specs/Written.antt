@@ -4,7 +4,6 @@ use Rattle.std.specs.Prelude.{ℕ, zero, suc, ◌+◌, List, [], ◌∷◌, ◌+
 use Rattle.rules.specs.Formula as Formula
 use Rattle.rules.specs.Formula.{Pairing, Formula}
 use Rattle.levels.specs.Levels.{Levels, binds}
-use Rattle.atoms.specs.Tree as Tree
 use Rattle.atoms.specs.Tree.{Tree}
 use Rattle.typed_grammar.specs.File.{pair_kind}
 use Rattle.typed_grammar.specs.Text.{letter}

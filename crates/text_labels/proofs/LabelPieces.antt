@@ -1,6 +1,6 @@
 -- Labels as pieces of the text: where one ends, two compared, one looked for in a list.
 use Prim.Native.Nat.{ℕ, zero, suc, ◌+◌, ◌-◌, ◌<◌, ◌≤◌}
-use mathlib.Core.Path.{◌≡◌, refl, sym, ap, ap₂, subst, ◌∙◌}
+use mathlib.Core.Path.{◌≡◌, refl, sym, ap, ap₂, ◌∙◌}
 use mathlib.Core.Bool.{Bool, true, false, not, ◌&&◌, cond}
 use mathlib.Core.List.{List, [], ◌∷◌, ◌++◌, append_assoc}
 use native.Mathlib.Omega.{arith}
@@ -8,8 +8,8 @@ use native.Mathlib.Numerals.{add-one}
 use lib.Dec.{eqb}
 use lib.ListN.{length, get_or, take, drop, length-drop, length-map, drop_of_length-le, get_or-eq_default}
 use lib.Seq.{take-suc, drop-cons, get_or-drop, length-take-le}
-use borrow.Author.Tests.{eq-eqb, ne_eqb, le-leb, lt-leb, not-true, not-false}
-use Rattle.lists.specs.Lists.{all?, same?, up_to}
+use borrow.Author.Tests.{eq-eqb, ne_eqb, not-true, not-false}
+use Rattle.lists.specs.Lists.{same?, up_to}
 use Rattle.lists.proofs.Lists.{append-nil}
 use Rattle.lists.proofs.Cases.{either_eq, either_bool}
 use Rattle.labels.specs.Label.{capital, capitals, label_form?}

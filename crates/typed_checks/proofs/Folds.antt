@@ -1,25 +1,21 @@
 -- Going through a table: one node more, two ranges, and the nodes of a tree.
 use Prim.Native.Nat.{ℕ, zero, suc, ◌+◌, ◌-◌, ◌*◌, ◌<◌, ◌≤◌}
-use mathlib.Core.Path.{◌≡◌, refl, sym, ap, ap₂, subst, ◌∙◌}
-use mathlib.Core.Bool.{Bool, true, false, not, ◌&&◌, cond}
-use mathlib.Core.List.{List, [], ◌∷◌, ◌++◌}
+use mathlib.Core.Path.{◌≡◌, refl, sym, ap, ap₂, ◌∙◌}
+use mathlib.Core.Bool.{Bool, true, false, not}
+use mathlib.Core.List.{List, []}
 use native.Mathlib.Omega.{arith}
 use native.Mathlib.Numerals.{add-one}
-use lib.Dec.{eqb, ltb}
-use lib.ListN.{length, get_or, take, length-append, length-take}
+use lib.Dec.{ltb}
+use lib.ListN.{length, get_or, take}
 use lib.Seq.{length-take-le}
 use borrow.Author.Tests.{lt-ltb, le-ltb, not-true, not-false}
-use Rattle.lists.proofs.Cases.{either_bool}
 use Rattle.atoms.specs.Tree.{Tree, either, both, neg, exists, has, pair, size}
 use Rattle.atoms.specs.Emit.{Names, level, inside}
 use Rattle.typed_formula.proofs.Stands.{NodeIs, Stands}
-use Rattle.typed_formula.specs.Meaning.{label_text}
-use Rattle.typed_grammar.specs.File.{place_in}
 use Rattle.text_labels.specs.Pieces.{texts, good_labels?}
 use Rattle.typed_checks.specs.Fold.{Step, fold_nodes, fold_tree}
 use Rattle.typed_checks.specs.Tests.{bound_step, few_step, noted, Notes, places_in, ListsPlaces, decided, Decides}
 use Rattle.typed_checks.specs.declared.Decision.{Decision}
-use Rattle.typed_checks.specs.declared.Decision.TheVariants as Decision
 
 -- ── loops ──
 module _ {S : Type 0} (f : Step S) (s₀ : S) (tb : List ℕ) where

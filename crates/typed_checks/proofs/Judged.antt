@@ -1,31 +1,25 @@
 -- What the tables' tests decide is what the formula's definitions say.
-use Prim.Native.Nat.{ℕ, zero, suc, ◌+◌, ◌-◌, ◌*◌, ◌<◌, ◌≤◌}
-use mathlib.Core.Path.{◌≡◌, refl, sym, ap, ap₂, subst, fun_ext, ◌∙◌}
-use mathlib.Core.Bool.{Bool, true, false, not, ◌&&◌, ◌||◌, cond, and-true, and-false, and_assoc}
-use mathlib.Core.Option.{Option, none, some}
-use mathlib.Core.List.{List, [], ◌∷◌, ◌++◌}
+use Prim.Native.Nat.{ℕ, zero, suc, ◌+◌, ◌<◌, ◌≤◌}
+use mathlib.Core.Path.{◌≡◌, refl, sym, ap, fun_ext, ◌∙◌}
+use mathlib.Core.Bool.{Bool, true, ◌&&◌, and-true, and-false, and_assoc}
+use mathlib.Core.List.{List, []}
 use native.Mathlib.Omega.{arith}
-use lib.Dec.{eqb, ltb}
-use lib.ListN.{length, get_or}
-use borrow.Author.Tests.{eq-eqb, ne_eqb, lt-ltb, le-ltb}
-use Rattle.lists.proofs.Cases.{either_bool, either_lt, either_eq}
-use Rattle.rules.specs.Formula as Formula
+use lib.ListN.{length}
+use borrow.Author.Tests.{ne_eqb, lt-ltb, le-ltb}
+use Rattle.lists.proofs.Cases.{either_lt}
 use Rattle.rules.specs.Formula.{Formula, no_scope, scoped, shallow}
 use Rattle.atoms.specs.Tree.{Tree, either, both, neg, exists, has, pair, size}
 use Rattle.atoms.specs.Emit.{Names, level, inside, emit}
 use Rattle.typed_formula.specs.Bound.{bound?, all_bound}
-use Rattle.typed_formula.specs.Meaning.{label_text, formula_for}
+use Rattle.typed_formula.specs.Meaning.{formula_for}
 use Rattle.typed_formula.proofs.Stands.{Stands, emit-stands}
 use Rattle.typed_formula.proofs.FileSays.{Known}
 use Rattle.typed_formula.proofs.Unbound.{below, inside_long, scoped_bound}
-use Rattle.typed_grammar.specs.File.{place_in}
-use Rattle.text_labels.specs.Pieces.{texts, good_labels?}
+use Rattle.text_labels.specs.Pieces.{texts}
 use Rattle.typed_checks.specs.Fold.{fold_nodes, fold_tree}
 use Rattle.typed_checks.specs.Tests.{bound_step, few_step, noted, places_in, decided}
-use Rattle.typed_grammar.specs.File.{with_label, labels_in, labels_of}
+use Rattle.typed_grammar.specs.File.{labels_in, labels_of}
 use Rattle.typed_checks.specs.Said.{judged}
-use Rattle.typed_checks.specs.declared.Decision.{Decision}
-use Rattle.typed_checks.specs.declared.Decision.TheVariants as Decision
 use Rattle.typed_checks.proofs.Folds.{fold_tree_lem}
 use Rattle.typed_checks.proofs.Numbers.{texts-long, noted_label, noted_other}
 

@@ -1,16 +1,15 @@
 -- Lists of labels: a label's number, and one label more.
-use Prim.Native.Nat.{ℕ, zero, suc, ◌+◌, ◌-◌, ◌*◌, ◌<◌, ◌≤◌}
-use mathlib.Core.Path.{◌≡◌, refl, sym, ap, ap₂, subst, ◌∙◌}
-use mathlib.Core.Bool.{Bool, true, false, not, ◌&&◌, ◌||◌, cond}
+use Prim.Native.Nat.{ℕ, zero, suc, ◌<◌, ◌≤◌}
+use mathlib.Core.Path.{◌≡◌, refl, ap, ap₂, ◌∙◌}
+use mathlib.Core.Bool.{false}
 use mathlib.Core.List.{List, [], ◌∷◌, ◌++◌}
 use native.Mathlib.Omega.{arith}
-use lib.Dec.{eqb, ltb}
 use lib.ListN.{length, get_or, length-append, get_or-append}
 use lib.Seq.{get_or-append_seam}
 use borrow.Author.Tests.{eq-eqb, ne_eqb, lt-ltb, le-ltb}
 use Rattle.lists.specs.Lists.{same?}
 use Rattle.lists.proofs.Lists.{same_refl, same_eq}
-use Rattle.lists.proofs.Cases.{either_bool, either_lt, either_eq}
+use Rattle.lists.proofs.Cases.{either_bool, either_lt}
 use Rattle.typed_formula.specs.Meaning.{label_text}
 use Rattle.typed_grammar.specs.File.{place_in}
 use Rattle.text_labels.specs.Pieces.{texts}

@@ -6,7 +6,6 @@ use Rattle.rules.specs.Formula.{Formula, no_scope, scoped, shallow}
 use Rattle.typed_grammar.specs.File.{labels_of}
 use Rattle.text_labels.specs.Pieces.{good_labels?}
 use Rattle.typed_checks.specs.declared.Decision.{Decision}
-use Rattle.typed_checks.specs.declared.Decision.TheVariants as Decision
 
 -- A formula of n nodes. 4: more than 64 nodes or 16 labels; 5: a label of wrong length or byte; 9: an unbound name; 10: five nested names.
 unfoldable pub judged : ℕ → Formula → Decision

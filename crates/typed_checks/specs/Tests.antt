@@ -1,12 +1,11 @@
 -- How the code works, not what it means.
 -- "Limits and numbers 4, 5, 9 and 10 carry over, met in that order after the grammar": over a table of nodes.
-use Rattle.std.specs.Prelude.{ℕ, suc, ◌+◌, ◌-◌, ◌≤◌, ◌≡◌, Bool, true, false, not, ◌&&◌, ◌||◌, cond, List, [], ◌∷◌, ◌++◌, eqb, ltb, length, take}
+use Rattle.std.specs.Prelude.{ℕ, ◌+◌, ◌≤◌, ◌≡◌, Bool, true, not, ◌&&◌, ◌||◌, cond, List, [], ◌∷◌, ◌++◌, eqb, ltb, length, take}
 use Rattle.typed_formula.specs.Meaning.{label_text}
 use Rattle.typed_grammar.specs.File.{place_in}
 use Rattle.text_labels.specs.Pieces.{texts, good_labels?}
 use Rattle.typed_checks.specs.Fold.{Step, fold_nodes}
 use Rattle.typed_checks.specs.declared.Decision.{Decision}
-use Rattle.typed_checks.specs.declared.Decision.TheVariants as Decision
 
 -- the names of kinds 4 to 8; 255 stands for a name that nothing binds
 unfoldable pub bound_step : Step Bool

@@ -1,14 +1,9 @@
 -- A rule file that has the nodes of the table says what the tree says.
-use Prim.Native.Nat.{ℕ, zero, suc, ◌+◌, ◌-◌, ◌*◌, ◌<◌, ◌≤◌}
-use mathlib.Core.Path.{◌≡◌, refl, sym, ap, ap₂, subst, ◌∙◌}
-use mathlib.Core.Bool.{true, false, cond}
-use mathlib.Core.List.{List, [], ◌∷◌}
+use Prim.Native.Nat.{ℕ, ◌+◌, ◌-◌, ◌*◌, ◌<◌, ◌≤◌}
+use mathlib.Core.Path.{◌≡◌, refl, sym, ap, ap₂, ◌∙◌}
+use mathlib.Core.List.{List}
 use native.Mathlib.Omega.{arith}
-use lib.Dec.{eqb}
 use lib.ListN.{length, get_or}
-use borrow.Author.Tests.{eq-eqb, ne_eqb}
-use Rattle.lists.proofs.Cases.{either_eq}
-use Rattle.rules.specs.Formula as Formula
 use Rattle.rules.specs.Formula.{Formula}
 use Rattle.rules.specs.Labels.{label_bytes}
 use Rattle.rules.specs.Table.{pairing_of, node_at, Good, formula_at}
@@ -16,7 +11,7 @@ use Rattle.rules.proofs.Formulas.{formula-and, formula_not, formula_some, formul
 use Rattle.atoms.specs.Tree.{Tree, either, both, neg, exists, has, pair, size}
 use Rattle.atoms.specs.Emit.{Names, level, inside}
 use Rattle.typed_formula.specs.Meaning.{label_text, formula_for}
-use Rattle.typed_formula.proofs.Stands.{NodeIs, Stands, size_some}
+use Rattle.typed_formula.proofs.Stands.{NodeIs, Stands}
 
 -- The nodes of the file from p on are those of the table; a label's place is in the file the number of a label with its capitals.
 pub record Laid (text tb file : List ℕ) (p count : ℕ) : Type 0 where

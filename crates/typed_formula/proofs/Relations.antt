@@ -1,11 +1,10 @@
 -- The relations of a tree that a text has are of kinds 5 to 8.
 use Prim.Native.Nat.{ℕ, zero, suc, ◌≤◌}
-use mathlib.Core.Path.{◌≡◌, refl}
 use mathlib.Core.Option.{Option, none, some}
 use mathlib.Core.List.{List, [], ◌∷◌}
 use native.Mathlib.Omega.{arith}
 use Rattle.signs.specs.Signs.{Got, read, outside, next, if_sign, sign, name, label, skip}
-use Rattle.atoms.specs.Tree.{Tree, either, both, neg, exists, has, pair, either_all, both_all}
+use Rattle.atoms.specs.Tree.{Tree, either, both, either_all, both_all}
 use Rattle.signs.specs.Signs.{bar_sign, and_sign, not_sign, exist_sign, open_sign, close_sign, comma_sign, dot_sign, same_sign, less_sign, overlaps_sign, includes_sign}
 use Rattle.atoms.specs.Atoms.{relation, read_same, read_has, read_pair, read_atom}
 use Rattle.typed.specs.Grammar.{read_or, more_or, read_and, more_and, read_not, read_some, read_body, read_operand}

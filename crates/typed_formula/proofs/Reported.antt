@@ -1,7 +1,7 @@
 -- A tree of at most 64 nodes, its table, and any file that has the table's nodes: the file's nodes are one tree, and its formula is
 -- what the text says.
 use Prim.Native.Nat.{ℕ, ◌-◌, ◌≤◌, ◌+◌}
-use mathlib.Core.Path.{◌≡◌, refl, ap, sym, ◌∙◌}
+use mathlib.Core.Path.{◌≡◌, ap, ◌∙◌}
 use mathlib.Core.Bool.{true}
 use mathlib.Core.List.{List, []}
 use native.Mathlib.Omega.{arith}

@@ -1,19 +1,16 @@
 -- Refusal 9 of a typed rule is that of the formula that it says.
-use Prim.Native.Nat.{ℕ, zero, suc, ◌+◌, ◌<◌, ◌≤◌}
+use Prim.Native.Nat.{ℕ, suc, ◌+◌, ◌<◌, ◌≤◌}
 use mathlib.Core.Path.{◌≡◌, refl, sym, ap, ap₂, ◌∙◌}
-use mathlib.Core.Bool.{Bool, true, false, not, ◌&&◌, ◌||◌, cond}
+use mathlib.Core.Bool.{◌&&◌, ◌||◌, cond}
 use mathlib.Core.Logic.{◌⊎◌, inl, inr, ⊎_elim}
 use mathlib.Core.List.{List, [], ◌∷◌, ◌++◌}
 use native.Mathlib.Omega.{arith}
-use native.Mathlib.Numerals.{add-one}
 use lib.Dec.{eqb, ltb}
-use lib.ListN.{length, take, length-append}
+use lib.ListN.{length, length-append}
 use lib.Seq.{take_all}
 use borrow.Author.Tests.{eq-eqb, ne_eqb, lt-ltb, le-ltb}
 use Rattle.lists.proofs.Cases.{either_eq, either_lt, either_bool}
-use Rattle.rules.specs.Formula as Formula
-use Rattle.rules.specs.Formula.{Formula, Scope, no_scope, enter, scoped}
-use Rattle.atoms.specs.Tree as Tree
+use Rattle.rules.specs.Formula.{Scope, enter, scoped}
 use Rattle.atoms.specs.Tree.{Tree, size}
 use Rattle.atoms.specs.Emit.{Names, level_from, level, inside}
 use Rattle.typed_formula.specs.Meaning.{formula_for}

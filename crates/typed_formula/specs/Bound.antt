@@ -1,7 +1,6 @@
 -- How the code works, not what it means.
 -- Names that something binds.
-use Rattle.std.specs.Prelude.{ℕ, suc, Bool, not, ◌&&◌, eqb}
-use Rattle.atoms.specs.Tree as Tree
+use Rattle.std.specs.Prelude.{ℕ, Bool, not, ◌&&◌, eqb}
 use Rattle.atoms.specs.Tree.{Tree}
 use Rattle.atoms.specs.Emit.{Names, level, inside}
 

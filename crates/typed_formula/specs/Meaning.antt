@@ -3,10 +3,8 @@
 use Rattle.std.specs.Prelude.{ℕ, ◌-◌, List, length, drop}
 use Rattle.lists.specs.Lists.{up_to}
 use Rattle.labels.specs.Label.{capitals}
-use Rattle.rules.specs.Formula as Formula
 use Rattle.rules.specs.Formula.{Formula}
 use Rattle.rules.specs.Table.{pairing_of}
-use Rattle.atoms.specs.Tree as Tree
 use Rattle.atoms.specs.Tree.{Tree}
 use Rattle.atoms.specs.Emit.{Names, level, inside}
 

@@ -9,7 +9,6 @@ use native.Mathlib.Omega.{arith}
 use lib.ListN.{length}
 use Rattle.labels.specs.Label.{capitals}
 use Rattle.rules.specs.Formula.{Pairing}
-use Rattle.rules.specs.Formula as Pairing
 use Rattle.rules.specs.Table.{pairing_of}
 use Rattle.signs.specs.Signs.{Got, read, bar_sign, and_sign, not_sign, open_sign, close_sign, comma_sign, dot_sign, exist_sign, skip}
 use Rattle.atoms.specs.Tree as Kept

@@ -5,7 +5,6 @@ use mathlib.Core.Option.{Option, none, some}
 use mathlib.Core.List.{List, ◌∷◌}
 use native.Mathlib.Omega.{arith}
 use Rattle.rules.specs.Formula.{Pairing}
-use Rattle.rules.specs.Formula as Pairing
 use Rattle.rules.specs.Table.{pairing_of}
 use Rattle.signs.specs.Signs.{Got, read, outside, next, if_sign, sign, open_sign, close_sign, comma_sign, less_sign, overlaps_sign, includes_sign, same_sign, and_sign, bar_sign}
 use Rattle.signs.specs.Signs as Reader

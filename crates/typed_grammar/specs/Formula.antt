@@ -1,9 +1,7 @@
 -- The formula that a typed rule says.
 use Rattle.std.specs.Prelude.{ℕ, cond, List, [], ◌∷◌, length}
 use Rattle.lists.specs.Lists.{same?}
-use Rattle.rules.specs.Formula as Formula
 use Rattle.rules.specs.Formula.{Formula}
-use Rattle.typed_grammar.specs.Grammar as Tree
 use Rattle.typed_grammar.specs.Grammar.{Tree}
 
 -- the names bound around a place, innermost first

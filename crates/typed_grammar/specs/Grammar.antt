@@ -2,7 +2,6 @@
 use Rattle.std.specs.Prelude.{ℕ, ◌≤◌, List, [], ◌∷◌, length}
 use Rattle.labels.specs.Label.{capitals}
 use Rattle.rules.specs.Formula.{Pairing}
-use Rattle.rules.specs.Formula as Pairing
 use Rattle.typed_grammar.specs.Words.{Mark, bar, and, not, opens, closes, comma, dot, before, overlaps, includes, exist, same, Sign, mark, name, label, Signs}
 
 -- What a text says. Names are their bytes, labels their capitals: "Looking up a label must treat a to z as A to Z, in logs, rule files

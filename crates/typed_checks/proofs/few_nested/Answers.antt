@@ -1,0 +1,15 @@
+-- The answer so far is that for the nodes passed.
+use mathlib.Core.Bool.{true}
+use borrow.Author.Rules.{rules}
+use Rattle.typed_checks.specs.Tests.{few_step}
+use Rattle.typed_checks.proofs.Folds.{fold_first, few_next, fold_end}
+use Rattle.typed_checks.proofs.few_nested.Goals as goal
+
+pub loop-i-init : goal.loop-i-init
+loop-i-init c = (fold_first few_step true _, search rules)
+
+pub loop-i-preserved : goal.loop-i-preserved
+loop-i-preserved c = (search few_next, search rules)
+
+pub returns : goal.returns
+returns c = search fold_end

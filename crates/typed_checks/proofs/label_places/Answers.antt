@@ -1,0 +1,13 @@
+-- The places so far are those of the nodes passed.
+use borrow.Author.Rules.{rules}
+use Rattle.typed_checks.proofs.Folds.{listed_first, listed_next, listed_end}
+use Rattle.typed_checks.proofs.label_places.Goals as goal
+
+pub loop-i-init : goal.loop-i-init
+loop-i-init c = (search listed_first, search rules)
+
+pub loop-i-preserved : goal.loop-i-preserved
+loop-i-preserved c = (search listed_next, search rules)
+
+pub returns : goal.returns
+returns c = search listed_end

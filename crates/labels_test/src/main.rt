@@ -24,7 +24,7 @@ mod show;
 mod table;
 
 use labels::Label;
-use libc::STDIN_FILENO;
+use std::io::Stdout;
 
 // The bytes of a label with a length that need not be theirs.
 fn of_length(x: Label, length: u8) -> Label {
@@ -41,7 +41,7 @@ fn begun_with(x: Label, first: u8) -> Label {
 }
 
 // The label after a case.
-fn label_after(x: Label, kind: u8, text: &[u8]) -> Label {
+fn label_after(out: Stdout, x: Label, kind: u8, text: &[u8]) -> Label {
     if kind == b'x' {
         return table::label(text);
     }
@@ -54,11 +54,11 @@ fn label_after(x: Label, kind: u8, text: &[u8]) -> Label {
     if kind == b'o' {
         return labels::no_label();
     }
-    show::case(x, kind, text);
+    show::case(out, x, kind, text);
     x
 }
 
-fn run(input: &[u8]) {
+fn run(out: Stdout, input: &[u8]) {
     let mut t = table::empty();
     let mut x = labels::no_label();
     let mut at: usize = 0;
@@ -66,14 +66,15 @@ fn run(input: &[u8]) {
         let c = test_cases::case_at(input, at);
         let start = c.start;
         let end = c.end;
-        x = label_after(x, c.kind, &input[start..end]);
-        t = table::after(t, c.kind, &input[start..end]);
+        x = label_after(out, x, c.kind, &input[start..end]);
+        t = table::after(out, t, c.kind, &input[start..end]);
         at = c.next;
     }
 }
 
-fn main() {
-    let mut input = io::large_buffer();
-    let n = io::read_full(STDIN_FILENO, &mut input);
-    run(&input[..n]);
+fn main(rt: HostRuntime) {
+    let out = rt.stdout();
+    let mut input = test_cases::room();
+    let n = test_cases::read_input(rt.stdin(), &mut input);
+    run(out, &input[..n]);
 }

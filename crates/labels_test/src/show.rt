@@ -1,17 +1,17 @@
 // What the calls answer.
 use super::table;
 use labels::{Label, Slot};
-use libc::STDOUT_FILENO;
+use std::io::Stdout;
 
 fn wide_hash(h: u32) -> u64 {
     h as u64
 }
 
-fn answer(yes: bool) {
+fn answer(out: Stdout, yes: bool) {
     if yes {
-        test_text::write(b": yes\n");
+        test_text::write(out, b": yes\n");
     } else {
-        test_text::write(b": no\n");
+        test_text::write(out, b": no\n");
     }
 }
 
@@ -20,73 +20,73 @@ fn dotted(b: u8) -> u8 {
     if b < 32 { b'.' } else { b }
 }
 
-fn dotted_text(bytes: &[u8]) {
+fn dotted_text(out: Stdout, bytes: &[u8]) {
     let mut i: usize = 0;
     while i < bytes.len() {
-        test_text::write_byte(dotted(bytes[i]));
+        test_text::write_byte(out, dotted(bytes[i]));
         i += 1;
     }
 }
 
 // The hash of the bytes of a text, in hexadecimal.
-fn hash(text: &[u8]) {
+fn hash(out: Stdout, text: &[u8]) {
     let mut word = [0u8; 32];
     let n = test_cases::bytes(text, &mut word);
-    test_text::write(b": ");
-    io::print_hex(STDOUT_FILENO, wide_hash(labels::fnv1a(&word[..n])), 8);
-    test_text::write(b"\n");
+    test_text::write(out, b": ");
+    test_text::write_hex(out, wide_hash(labels::fnv1a(&word[..n])));
+    test_text::write(out, b"\n");
 }
 
-fn label(x: Label) {
+fn label(out: Stdout, x: Label) {
     let bytes = x.bytes;
     let length = [test_text::wide(x.length)];
-    test_text::write_filled(b"label of length %a: ", &length);
-    dotted_text(&bytes);
-    test_text::write(b"\n");
+    test_text::write_filled(out, b"label of length %a: ", &length);
+    dotted_text(out, &bytes);
+    test_text::write(out, b"\n");
 }
 
 // Where the search for a label ends.
-pub fn slot(word: &[u8], s: Slot) {
-    test_text::write(word);
+pub fn slot(out: Stdout, word: &[u8], s: Slot) {
+    test_text::write(out, word);
     match s {
         Slot::Seen(n) => {
-            test_text::write(b" has number ");
-            test_text::write_number(test_text::wide(n.0));
+            test_text::write(out, b" has number ");
+            test_text::write_number(out, test_text::wide(n.0));
         }
         Slot::Free(p) => {
-            test_text::write(b" goes to place ");
-            test_text::write_number(p as u64);
+            test_text::write(out, b" goes to place ");
+            test_text::write_number(out, p as u64);
         }
-        Slot::Full => test_text::write(b" finds no place"),
+        Slot::Full => test_text::write(out, b" finds no place"),
     }
-    test_text::write(b"\n");
+    test_text::write(out, b"\n");
 }
 
 // The cases that write a text and whether something is so.
-fn yes_or_no(x: Label, kind: u8, text: &[u8]) {
+fn yes_or_no(out: Stdout, x: Label, kind: u8, text: &[u8]) {
     if kind == b'b' {
-        test_text::write(text);
-        answer(labels::label_byte(test_cases::byte(text, 2)));
+        test_text::write(out, text);
+        answer(out, labels::label_byte(test_cases::byte(text, 2)));
     }
     if kind == b'd' {
-        test_text::write(text);
-        answer(labels::is_sound(x));
+        test_text::write(out, text);
+        answer(out, labels::is_sound(x));
     }
     if kind == b'e' {
-        answer(labels::equal_labels(table::label(text), x));
+        answer(out, labels::equal_labels(table::label(text), x));
     }
 }
 
 // The cases that write.
-pub fn case(x: Label, kind: u8, text: &[u8]) {
+pub fn case(out: Stdout, x: Label, kind: u8, text: &[u8]) {
     if kind == b'w' {
-        test_text::write(text);
+        test_text::write(out, text);
     }
     if kind == b'h' {
-        hash(text);
+        hash(out, text);
     }
     if kind == b'l' {
-        label(x);
+        label(out, x);
     }
-    yes_or_no(x, kind, text);
+    yes_or_no(out, x, kind, text);
 }

@@ -4,6 +4,7 @@ ghost use Rattle.labels.specs.Search.{Readable};
 
 use super::show;
 use labels::{Label, LabelTable, Slot};
+use std::io::Stdout;
 
 // The label with the bytes of a word; no label if they are more than 24.
 pub fn label(word: &[u8]) -> Label
@@ -36,14 +37,14 @@ fn with_label(t: LabelTable, x: Label) -> LabelTable
 }
 
 // Writes where the search for a word ends.
-fn find(t: LabelTable, word: &[u8])
+fn find(out: Stdout, t: LabelTable, word: &[u8])
     requires { Readable t }
 {
-    show::slot(word, labels::find_label(t, label(word)));
+    show::slot(out, word, labels::find_label(t, label(word)));
 }
 
 // The table after a case.
-pub fn after(t: LabelTable, kind: u8, text: &[u8]) -> LabelTable
+pub fn after(out: Stdout, t: LabelTable, kind: u8, text: &[u8]) -> LabelTable
     requires { Readable t }
     ensures { Readable result }
 {
@@ -51,7 +52,7 @@ pub fn after(t: LabelTable, kind: u8, text: &[u8]) -> LabelTable
         return empty();
     }
     if kind == b'f' || kind == b'p' {
-        find(t, text);
+        find(out, t, text);
     }
     if kind == b'p' {
         return with_label(t, label(text));

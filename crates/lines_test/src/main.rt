@@ -9,65 +9,65 @@
 // `=` writes its text.
 #![tactic(auto)]
 
-use libc::STDIN_FILENO;
 use lines::{Next, Parsed};
+use std::io::Stdout;
 
 // Writes what one line says.
-fn show_line(line: &[u8]) {
+fn show_line(out: Stdout, line: &[u8]) {
     match lines::parse_line(line) {
         Parsed::Begin { id, label, length } => {
             let numbers = [id as u64, label as u64, length as u64];
-            test_text::write_filled(b"B %a label at %b length %c", &numbers);
+            test_text::write_filled(out, b"B %a label at %b length %c", &numbers);
         }
         Parsed::End(id) => {
-            test_text::write(b"E ");
-            test_text::write_number(id as u64);
+            test_text::write(out, b"E ");
+            test_text::write_number(out, id as u64);
         }
-        Parsed::Refused(code) => test_text::write_refusal(code),
+        Parsed::Refused(code) => test_text::write_refusal(out, code),
     }
-    test_text::write(b"\n");
+    test_text::write(out, b"\n");
 }
 
 // Writes what stands at a place.
-fn show_answer(n: Next) {
+fn show_answer(out: Stdout, n: Next) {
     match n {
         Next::Line { start, end } => {
             let numbers = [start as u64, end as u64];
-            test_text::write_filled(b"line %a to %b", &numbers);
+            test_text::write_filled(out, b"line %a to %b", &numbers);
         }
-        Next::Refused(code) => test_text::write_refusal(code),
-        Next::Done => test_text::write(b"done"),
+        Next::Refused(code) => test_text::write_refusal(out, code),
+        Next::Done => test_text::write(out, b"done"),
     }
 }
 
 // Writes what stands at a place of a log, and answers the place after it.
-fn show_next(log: &[u8], place: usize) -> usize {
+fn show_next(out: Stdout, log: &[u8], place: usize) -> usize {
     let n = lines::next_line(log, place);
-    show_answer(n);
-    test_text::write(b"\n");
+    show_answer(out, n);
+    test_text::write(out, b"\n");
     lines::place_after(n, place)
 }
 
 // Writes what a reader at a place answers, and its place after that.
-fn show_reader(log: &[u8], place: usize) -> usize {
+fn show_reader(out: Stdout, log: &[u8], place: usize) -> usize {
     let a = lines::line_from(log, place);
     let n = a.next;
-    show_answer(n);
+    show_answer(out, n);
     let numbers = [a.place as u64];
-    test_text::write_filled(b", place %a\n", &numbers);
+    test_text::write_filled(out, b", place %a\n", &numbers);
     a.place
 }
 
 // The place after a case.
-fn moved(place: usize, kind: u8, text: &[u8], log: &[u8]) -> usize {
+fn moved(out: Stdout, place: usize, kind: u8, text: &[u8], log: &[u8]) -> usize {
     if kind == b'@' {
         return test_cases::size(text, 0);
     }
     if kind == b'n' {
-        return show_next(log, place);
+        return show_next(out, log, place);
     }
     if kind == b'r' {
-        return show_reader(log, place);
+        return show_reader(out, log, place);
     }
     place
 }
@@ -81,18 +81,18 @@ fn length(m: usize, kind: u8, text: &[u8], log: &mut [u8]) -> usize {
 }
 
 // The cases of a text alone.
-fn show(kind: u8, text: &[u8]) {
+fn show(out: Stdout, kind: u8, text: &[u8]) {
     if kind == b'=' {
-        test_text::write_line(text);
+        test_text::write_line(out, text);
     }
     if kind == b'p' {
         let mut line = [0u8; 64];
         let n = test_cases::bytes(text, &mut line);
-        show_line(&line[..n]);
+        show_line(out, &line[..n]);
     }
 }
 
-fn run(input: &[u8], log: &mut [u8]) {
+fn run(out: Stdout, input: &[u8], log: &mut [u8]) {
     let mut m: usize = 0;
     let mut place: usize = 0;
     let mut at: usize = 0;
@@ -100,18 +100,19 @@ fn run(input: &[u8], log: &mut [u8]) {
         let c = test_cases::case_at(input, at);
         let start = c.start;
         let end = c.end;
-        show(c.kind, &input[start..end]);
+        show(out, c.kind, &input[start..end]);
         m = length(m, c.kind, &input[start..end], log);
         if m <= log.len() {
-            place = moved(place, c.kind, &input[start..end], &log[0..m]);
+            place = moved(out, place, c.kind, &input[start..end], &log[0..m]);
         }
         at = c.next;
     }
 }
 
-fn main() {
-    let mut input = io::large_buffer();
+fn main(rt: HostRuntime) {
+    let out = rt.stdout();
+    let mut input = test_cases::room();
     let mut log = [0u8; 64];
-    let n = io::read_full(STDIN_FILENO, &mut input);
-    run(&input[..n], &mut log);
+    let n = test_cases::read_input(rt.stdin(), &mut input);
+    run(out, &input[..n], &mut log);
 }

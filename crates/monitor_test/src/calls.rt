@@ -3,6 +3,7 @@ use super::{answers, handed};
 use lines::Next;
 use monitor::{Mode, Tallied};
 use pairs::Layout;
+use std::io::Stdout;
 
 // The call on a line without a tally, which stays.
 fn plain(l: Layout, s: Tallied, file: &[u8], work: &mut [u8], line: &[u8]) -> Tallied {
@@ -29,27 +30,43 @@ fn call(l: Layout, s: Tallied, kind: u8, file: &[u8], work: &mut [u8], line: &[u
 }
 
 // One line: the answer is written, and what is handed back is handed on.
-fn one_line(l: Layout, s: Tallied, kind: u8, file: &[u8], work: &mut [u8], line: &[u8]) -> Tallied {
+fn one_line(
+    out: Stdout,
+    l: Layout,
+    s: Tallied,
+    kind: u8,
+    file: &[u8],
+    work: &mut [u8],
+    line: &[u8],
+) -> Tallied {
     let a = call(l, s, kind, file, work, line);
     if kind != b'q' {
-        answers::line(kind, a, work);
-        test_text::write(b"\n");
+        answers::line(out, kind, a, work);
+        test_text::write(out, b"\n");
     }
     a
 }
 
 // The same, and whether the record and the work area are as they were.
-fn compared(l: Layout, s: Tallied, file: &[u8], work: &mut [u8], line: &[u8]) -> Tallied {
+fn compared(
+    out: Stdout,
+    l: Layout,
+    s: Tallied,
+    file: &[u8],
+    work: &mut [u8],
+    line: &[u8],
+) -> Tallied {
     let mut before = [0u8; 16400];
     answers::copy(work, &mut before);
     let a = plain(l, s, file, work, line);
-    answers::line(b'D', a, work);
-    answers::kept(s.state, a.state, &before, work);
+    answers::line(out, b'D', a, work);
+    answers::kept(out, s.state, a.state, &before, work);
     a
 }
 
 // The line that stands in a log from start to before end.
 fn part(
+    out: Stdout,
     l: Layout,
     s: Tallied,
     kind: u8,
@@ -61,7 +78,7 @@ fn part(
 ) -> Tallied {
     if start <= end {
         if end <= log.len() {
-            return one_line(l, s, kind, file, work, &log[start..end]);
+            return one_line(out, l, s, kind, file, work, &log[start..end]);
         }
     }
     s
@@ -69,6 +86,7 @@ fn part(
 
 // What a reader hands out.
 fn next(
+    out: Stdout,
     l: Layout,
     s: Tallied,
     kind: u8,
@@ -78,21 +96,29 @@ fn next(
     n: Next,
 ) -> Tallied {
     match n {
-        Next::Line { start, end } => part(l, s, kind, file, work, log, start, end),
+        Next::Line { start, end } => part(out, l, s, kind, file, work, log, start, end),
         Next::Refused(_) => s,
         Next::Done => s,
     }
 }
 
 // The lines of a log, at most 256, as a reader hands them out.
-fn each_line(l: Layout, s: Tallied, kind: u8, file: &[u8], work: &mut [u8], log: &[u8]) -> Tallied {
+fn each_line(
+    out: Stdout,
+    l: Layout,
+    s: Tallied,
+    kind: u8,
+    file: &[u8],
+    work: &mut [u8],
+    log: &[u8],
+) -> Tallied {
     let mut q = s;
     let mut place: usize = 0;
     let mut left: usize = 256;
     while 0 < left {
         let a = lines::line_from(log, place);
         let n = a.next;
-        q = next(l, q, kind, file, work, log, n);
+        q = next(out, l, q, kind, file, work, log, n);
         place = a.place;
         left -= 1;
     }
@@ -100,18 +126,26 @@ fn each_line(l: Layout, s: Tallied, kind: u8, file: &[u8], work: &mut [u8], log:
 }
 
 // A whole log: the answer is written.
-fn whole_in(l: Layout, m: Mode, file: &[u8], log: &[u8], work: &mut [u8], bytes: &mut [u8]) {
+fn whole_in(
+    out: Stdout,
+    l: Layout,
+    m: Mode,
+    file: &[u8],
+    log: &[u8],
+    work: &mut [u8],
+    bytes: &mut [u8],
+) {
     let a = monitor::check_log(l, m, file, log, work, bytes);
-    answers::log(a, work, bytes);
+    answers::log(out, a, work, bytes);
 }
 
 // The same in a work area of w bytes and a verdict buffer of v bytes.
-fn whole(l: Layout, m: Mode, file: &[u8], log: &[u8], w: usize, v: usize) {
+fn whole(out: Stdout, l: Layout, m: Mode, file: &[u8], log: &[u8], w: usize, v: usize) {
     let mut area = [7u8; 16400];
     let mut bytes = [9u8; 260];
     if w <= 16400 {
         if v <= 260 {
-            whole_in(l, m, file, log, &mut area[0..w], &mut bytes[0..v]);
+            whole_in(out, l, m, file, log, &mut area[0..w], &mut bytes[0..v]);
         }
     }
 }
@@ -140,6 +174,7 @@ fn call_of(kind: u8) -> u8 {
 }
 
 fn called(
+    out: Stdout,
     l: Layout,
     m: Mode,
     s: Tallied,
@@ -151,23 +186,24 @@ fn called(
 ) -> Tallied {
     let k = call_of(kind);
     if k == 1 {
-        return one_line(l, s, kind, file, work, log);
+        return one_line(out, l, s, kind, file, work, log);
     }
     if k == 2 {
-        return compared(l, s, file, work, log);
+        return compared(out, l, s, file, work, log);
     }
     if k == 3 {
-        return each_line(l, s, kind, file, work, log);
+        return each_line(out, l, s, kind, file, work, log);
     }
     if k == 5 {
         return kept(l, s, file, log, work);
     }
-    whole(l, m, file, log, work.len(), v);
+    whole(out, l, m, file, log, work.len(), v);
     s
 }
 
 // What a case leaves.
 pub fn case(
+    out: Stdout,
     l: Layout,
     m: Mode,
     s: Tallied,
@@ -178,7 +214,7 @@ pub fn case(
     v: usize,
 ) -> Tallied {
     if kind == b'=' {
-        test_text::write_line(text);
+        test_text::write_line(out, text);
         return s;
     }
     if call_of(kind) == 0 {
@@ -186,5 +222,5 @@ pub fn case(
     }
     let mut log = [0u8; 2048];
     let n = test_cases::bytes(text, &mut log);
-    called(l, m, s, kind, &log[..n], file, work, v)
+    called(out, l, m, s, kind, &log[..n], file, work, v)
 }

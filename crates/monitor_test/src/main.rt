@@ -29,11 +29,19 @@ mod calls;
 mod handed;
 
 use handed::{Sizes, State};
-use libc::STDIN_FILENO;
 use monitor::Tallied;
+use std::io::Stdout;
 
 // A case with a rule and a work area of the given sizes.
-fn case_in(s: Tallied, kind: u8, text: &[u8], z: Sizes, file: &[u8], area: &mut [u8]) -> Tallied {
+fn case_in(
+    out: Stdout,
+    s: Tallied,
+    kind: u8,
+    text: &[u8],
+    z: Sizes,
+    file: &[u8],
+    area: &mut [u8],
+) -> Tallied {
     let n = z.rule;
     let w = z.work;
     let l = handed::layout(z.layout);
@@ -41,6 +49,7 @@ fn case_in(s: Tallied, kind: u8, text: &[u8], z: Sizes, file: &[u8], area: &mut 
     if n <= file.len() {
         if w <= area.len() {
             return calls::case(
+                out,
                 l,
                 m,
                 s,
@@ -56,28 +65,29 @@ fn case_in(s: Tallied, kind: u8, text: &[u8], z: Sizes, file: &[u8], area: &mut 
 }
 
 // The state after a case.
-fn after(s: State, kind: u8, text: &[u8], file: &mut [u8], area: &mut [u8]) -> State {
+fn after(out: Stdout, s: State, kind: u8, text: &[u8], file: &mut [u8], area: &mut [u8]) -> State {
     let z = handed::sized(s.sizes, kind, text, file, area);
-    let x = case_in(s.held, kind, text, z, file, area);
+    let x = case_in(out, s.held, kind, text, z, file, area);
     State { held: x, sizes: z }
 }
 
-fn run(first: State, input: &[u8], file: &mut [u8], area: &mut [u8]) {
+fn run(out: Stdout, first: State, input: &[u8], file: &mut [u8], area: &mut [u8]) {
     let mut s = first;
     let mut at: usize = 0;
     while at < input.len() {
         let c = test_cases::case_at(input, at);
         let start = c.start;
         let end = c.end;
-        s = after(s, c.kind, &input[start..end], file, area);
+        s = after(out, s, c.kind, &input[start..end], file, area);
         at = c.next;
     }
 }
 
-fn main() {
-    let mut input = io::large_buffer();
+fn main(rt: HostRuntime) {
+    let out = rt.stdout();
+    let mut input = test_cases::room();
     let mut file = [0u8; 640];
     let mut area = [7u8; 16400];
-    let n = io::read_full(STDIN_FILENO, &mut input);
-    run(handed::nothing(), &input[..n], &mut file, &mut area);
+    let n = test_cases::read_input(rt.stdin(), &mut input);
+    run(out, handed::nothing(), &input[..n], &mut file, &mut area);
 }

@@ -1,5 +1,6 @@
 // A work area: what stands in it, and its pair bytes brought up to date and compared.
 use pairs::Layout;
+use std::io::Stdout;
 use trace::{Record, RunNo};
 
 // The length of the area after a case; a new one holds 7s.
@@ -37,7 +38,7 @@ fn byte(work: &[u8], at: usize) -> u64 {
 }
 
 // Writes a text with the numbers of the area and a count of lines.
-pub fn show(text: &[u8], lines: u64, work: &[u8]) {
+pub fn show(out: Stdout, text: &[u8], lines: u64, work: &[u8]) {
     let last = std::num::wrapping_sub_usize(work.len(), 1);
     let numbers = [
         byte(work, 1),
@@ -52,7 +53,7 @@ pub fn show(text: &[u8], lines: u64, work: &[u8]) {
         test_text::count(work, 7),
         lines,
     ];
-    test_text::write_filled(text, &numbers);
+    test_text::write_filled(out, text, &numbers);
 }
 
 // Brings the bytes of run k up to date.
@@ -69,12 +70,12 @@ pub fn refresh(l: Layout, r: Record, k: RunNo, work: &mut [u8]) {
 }
 
 // Ends a line with whether the area has the pair bytes of the record.
-pub fn show_match(l: Layout, r: Record, work: &[u8]) {
+pub fn show_match(out: Stdout, l: Layout, r: Record, work: &[u8]) {
     let n = r.runs.count;
     let end = pairs::work_bytes(l);
     if n <= 128 {
         if end <= work.len() {
-            test_text::write_answer(pairs::pairs_match(l, r, work));
+            test_text::write_answer(out, pairs::pairs_match(l, r, work));
         }
     }
 }

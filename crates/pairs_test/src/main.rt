@@ -18,19 +18,27 @@
 mod area;
 mod calls;
 
-use libc::STDIN_FILENO;
 use pairs::Layout;
+use std::io::Stdout;
 use trace::Record;
 
 // A case in the first n bytes of a work area.
-fn case_in(l: Layout, r: Record, kind: u8, text: &[u8], work: &mut [u8], n: usize) -> Record {
+fn case_in(
+    out: Stdout,
+    l: Layout,
+    r: Record,
+    kind: u8,
+    text: &[u8],
+    work: &mut [u8],
+    n: usize,
+) -> Record {
     if n <= work.len() {
-        return calls::case(l, r, kind, text, &mut work[0..n]);
+        return calls::case(out, l, r, kind, text, &mut work[0..n]);
     }
     r
 }
 
-fn run(input: &[u8], work: &mut [u8]) {
+fn run(out: Stdout, input: &[u8], work: &mut [u8]) {
     let mut l = Layout::Square;
     let mut r = trace::no_lines();
     let mut n: usize = 0;
@@ -41,14 +49,15 @@ fn run(input: &[u8], work: &mut [u8]) {
         let end = c.end;
         l = area::layout(l, c.kind, &input[start..end]);
         n = area::sized(n, c.kind, &input[start..end], work);
-        r = case_in(l, r, c.kind, &input[start..end], work, n);
+        r = case_in(out, l, r, c.kind, &input[start..end], work, n);
         at = c.next;
     }
 }
 
-fn main() {
-    let mut input = io::large_buffer();
+fn main(rt: HostRuntime) {
+    let out = rt.stdout();
+    let mut input = test_cases::room();
     let mut work = [7u8; 16400];
-    let n = io::read_full(STDIN_FILENO, &mut input);
-    run(&input[..n], &mut work);
+    let n = test_cases::read_input(rt.stdin(), &mut input);
+    run(out, &input[..n], &mut work);
 }

@@ -16,15 +16,15 @@
 mod calls;
 mod show;
 
-use libc::STDIN_FILENO;
+use std::io::Stdout;
 
 // The cases that write what there is, and those that call.
-fn case(kind: u8, text: &[u8], bytes: &mut [u8], work: &mut [u8]) {
+fn case(out: Stdout, kind: u8, text: &[u8], bytes: &mut [u8], work: &mut [u8]) {
     if kind == b'b' {
         test_text::fill(bytes, 9);
     } else {
-        show::case(kind, text, bytes);
-        calls::case(kind, text, bytes, work);
+        show::case(out, kind, text, bytes);
+        calls::case(out, kind, text, bytes, work);
     }
 }
 
@@ -37,13 +37,13 @@ fn length(n: usize, kind: u8, text: &[u8]) -> usize {
 }
 
 // A case on the first n bytes.
-fn case_in(kind: u8, text: &[u8], bytes: &mut [u8], n: usize, work: &mut [u8]) {
+fn case_in(out: Stdout, kind: u8, text: &[u8], bytes: &mut [u8], n: usize, work: &mut [u8]) {
     if n <= bytes.len() {
-        case(kind, text, &mut bytes[0..n], work);
+        case(out, kind, text, &mut bytes[0..n], work);
     }
 }
 
-fn run(input: &[u8], bytes: &mut [u8], work: &mut [u8]) {
+fn run(out: Stdout, input: &[u8], bytes: &mut [u8], work: &mut [u8]) {
     let mut n: usize = 0;
     let mut at: usize = 0;
     while at < input.len() {
@@ -51,15 +51,16 @@ fn run(input: &[u8], bytes: &mut [u8], work: &mut [u8]) {
         let start = c.start;
         let end = c.end;
         n = length(n, c.kind, &input[start..end]);
-        case_in(c.kind, &input[start..end], bytes, n, work);
+        case_in(out, c.kind, &input[start..end], bytes, n, work);
         at = c.next;
     }
 }
 
-fn main() {
-    let mut input = io::large_buffer();
+fn main(rt: HostRuntime) {
+    let out = rt.stdout();
+    let mut input = test_cases::room();
     let mut bytes = [9u8; 2640];
     let mut work = [7u8; 16384];
-    let n = io::read_full(STDIN_FILENO, &mut input);
-    run(&input[..n], &mut bytes, &mut work);
+    let n = test_cases::read_input(rt.stdin(), &mut input);
+    run(out, &input[..n], &mut bytes, &mut work);
 }

@@ -18,23 +18,24 @@
 mod runs;
 mod sets;
 
-use libc::STDIN_FILENO;
+use std::io::Stdout;
 
-fn run(input: &[u8]) {
+fn run(out: Stdout, input: &[u8]) {
     let mut r = trace::no_lines();
     let mut at: usize = 0;
     while at < input.len() {
         let c = test_cases::case_at(input, at);
         let start = c.start;
         let end = c.end;
-        sets::case(c.kind, &input[start..end]);
-        r = runs::case(r, c.kind, &input[start..end]);
+        sets::case(out, c.kind, &input[start..end]);
+        r = runs::case(out, r, c.kind, &input[start..end]);
         at = c.next;
     }
 }
 
-fn main() {
-    let mut input = io::large_buffer();
-    let n = io::read_full(STDIN_FILENO, &mut input);
-    run(&input[..n]);
+fn main(rt: HostRuntime) {
+    let out = rt.stdout();
+    let mut input = test_cases::room();
+    let n = test_cases::read_input(rt.stdin(), &mut input);
+    run(out, &input[..n]);
 }

@@ -1,26 +1,27 @@
 // Positions, compositions and converses.
 use relations::Composed;
+use std::io::Stdout;
 
 // Writes a text and a number.
-pub fn answer(text: &[u8], n: u8) {
-    test_text::write(text);
-    test_text::write(b": ");
-    test_text::write_number(test_text::wide(n));
-    test_text::write(b"\n");
+pub fn answer(out: Stdout, text: &[u8], n: u8) {
+    test_text::write(out, text);
+    test_text::write(out, b": ");
+    test_text::write_number(out, test_text::wide(n));
+    test_text::write(out, b"\n");
 }
 
 // Writes a text and a refusal.
-pub fn refusal(text: &[u8], code: u8) {
-    test_text::write(text);
-    test_text::write(b": ");
-    test_text::write_refusal(code);
-    test_text::write(b"\n");
+pub fn refusal(out: Stdout, text: &[u8], code: u8) {
+    test_text::write(out, text);
+    test_text::write(out, b": ");
+    test_text::write_refusal(out, code);
+    test_text::write(out, b"\n");
 }
 
-fn show(text: &[u8], c: Composed) {
+fn show(out: Stdout, text: &[u8], c: Composed) {
     match c {
-        Composed::Set(n) => answer(text, n),
-        Composed::Refused(code) => refusal(text, code),
+        Composed::Set(n) => answer(out, text, n),
+        Composed::Refused(code) => refusal(out, text, code),
     }
 }
 
@@ -34,20 +35,21 @@ fn between(text: &[u8]) -> u8 {
 }
 
 // The cases of sets and positions.
-pub fn case(kind: u8, text: &[u8]) {
+pub fn case(out: Stdout, kind: u8, text: &[u8]) {
     if kind == b'=' {
-        test_text::write_line(text);
+        test_text::write_line(out, text);
     }
     if kind == b'b' {
-        answer(text, between(text));
+        answer(out, text, between(text));
     }
     if kind == b'c' {
         show(
+            out,
             text,
             relations::compose(test_cases::byte(text, 0), test_cases::byte(text, 1)),
         );
     }
     if kind == b'v' {
-        show(text, relations::converse(test_cases::byte(text, 0)));
+        show(out, text, relations::converse(test_cases::byte(text, 0)));
     }
 }

@@ -7,9 +7,9 @@
 // lines and has the report printed; `=` writes its text.
 #![tactic(auto)]
 
-use libc::STDIN_FILENO;
 use pairs::Layout;
 use report::Reported;
+use std::io::Stdout;
 use whole_log::Mode;
 
 // The layout, the mode, and how many bytes of the rule file, the log, the work area, the verdict buffer and the text buffer are in use.
@@ -25,30 +25,30 @@ struct Sizes {
 }
 
 // Writes the report, its length, and how many dots follow it.
-fn front(text: &[u8], n: usize) {
+fn front(out: Stdout, text: &[u8], n: usize) {
     if n <= text.len() {
-        test_text::write(&text[0..n]);
+        test_text::write(out, &text[0..n]);
         let numbers = [n as u64, test_text::count(&text[n..], b'.')];
-        test_text::write_filled(b"length %a, then %b dots\n", &numbers);
+        test_text::write_filled(out, b"length %a, then %b dots\n", &numbers);
     }
 }
 
 // Writes a refusal, and how many bytes are left as they were.
-fn refused(n: u8, work: &[u8], verdicts: &[u8], text: &[u8]) {
+fn refused(out: Stdout, n: u8, work: &[u8], verdicts: &[u8], text: &[u8]) {
     let numbers = [
         test_text::wide(n),
         test_text::count(work, 7),
         test_text::count(verdicts, 9),
         test_text::count(text, b'.'),
     ];
-    test_text::write_filled(b"refused %a, left %b %c %d\n", &numbers);
+    test_text::write_filled(out, b"refused %a, left %b %c %d\n", &numbers);
 }
 
 // Writes the answer.
-fn show(a: Reported, work: &[u8], verdicts: &[u8], text: &[u8]) {
+fn show(out: Stdout, a: Reported, work: &[u8], verdicts: &[u8], text: &[u8]) {
     match a {
-        Reported::Length(n) => front(text, n),
-        Reported::Refused(n) => refused(n, work, verdicts, text),
+        Reported::Length(n) => front(out, text, n),
+        Reported::Refused(n) => refused(out, n, work, verdicts, text),
     }
 }
 
@@ -98,7 +98,7 @@ fn mode(n: usize) -> Mode {
 }
 
 // A rule file and a log.
-fn print(s: Sizes, file: &[u8], log: &[u8]) {
+fn print(out: Stdout, s: Sizes, file: &[u8], log: &[u8]) {
     let mut work = [7u8; 16400];
     let mut verdicts = [9u8; 260];
     let mut text = [b'.'; 2100];
@@ -116,16 +116,16 @@ fn print(s: Sizes, file: &[u8], log: &[u8]) {
         &mut text,
         s.text,
     );
-    show(a, &work, &verdicts, &text);
+    show(out, a, &work, &verdicts, &text);
 }
 
 // The first bytes of a rule file and of a log.
-fn print_first(s: Sizes, file: &[u8], log: &[u8]) {
+fn print_first(out: Stdout, s: Sizes, file: &[u8], log: &[u8]) {
     let n = s.rule;
     let m = s.log;
     if n <= file.len() {
         if m <= log.len() {
-            print(s, &file[0..n], &log[0..m]);
+            print(out, s, &file[0..n], &log[0..m]);
         }
     }
 }
@@ -139,10 +139,10 @@ fn longer(log: &mut [u8], n: usize, text: &[u8]) -> usize {
 }
 
 // The sizes after a case.
-fn after(s: Sizes, file: &mut [u8], log: &mut [u8], kind: u8, text: &[u8]) -> Sizes {
+fn after(out: Stdout, s: Sizes, file: &mut [u8], log: &mut [u8], kind: u8, text: &[u8]) -> Sizes {
     let mut q = s;
     if kind == b'=' {
-        test_text::write_line(text);
+        test_text::write_line(out, text);
         return q;
     }
     if kind == b'r' {
@@ -169,14 +169,14 @@ fn after(s: Sizes, file: &mut [u8], log: &mut [u8], kind: u8, text: &[u8]) -> Si
     }
     if kind == b'p' {
         q.log = longer(log, s.log, text);
-        print_first(q, file, log);
+        print_first(out, q, file, log);
         q.log = 0;
         return q;
     }
     q
 }
 
-fn run(input: &[u8], file: &mut [u8], log: &mut [u8]) {
+fn run(out: Stdout, input: &[u8], file: &mut [u8], log: &mut [u8]) {
     let mut s = Sizes {
         layout: 0,
         mode: 0,
@@ -191,15 +191,16 @@ fn run(input: &[u8], file: &mut [u8], log: &mut [u8]) {
         let c = test_cases::case_at(input, at);
         let start = c.start;
         let end = c.end;
-        s = after(s, file, log, c.kind, &input[start..end]);
+        s = after(out, s, file, log, c.kind, &input[start..end]);
         at = c.next;
     }
 }
 
-fn main() {
-    let mut input = io::large_buffer();
+fn main(rt: HostRuntime) {
+    let out = rt.stdout();
+    let mut input = test_cases::room();
     let mut file = [0u8; 640];
     let mut log = [0u8; 2048];
-    let n = io::read_full(STDIN_FILENO, &mut input);
-    run(&input[..n], &mut file, &mut log);
+    let n = test_cases::read_input(rt.stdin(), &mut input);
+    run(out, &input[..n], &mut file, &mut log);
 }

@@ -5,8 +5,10 @@
 // between. Each program says which kinds it has.
 #![tactic(auto)]
 
-ghost use Rattle.std.specs.Prelude.{◌<◌, ◌≤◌, length};
-ghost use Rattle.io.specs.Counts.{IsPrefixLen};
+ghost use Rattle.std.specs.Prelude.{◌<◌, ◌≡◌, ◌≤◌, length};
+ghost use Rattle.input.specs.Counts.{IsPrefixLen};
+
+use std::io::{Read, Stdin};
 
 // One case: its kind, where its text stands in the input, and where the next case begins.
 #[derive(Clone, Copy)]
@@ -194,4 +196,37 @@ pub fn count(text: &[u8], k: usize) -> u32 {
 // Number k as a place or a length.
 pub fn size(text: &[u8], k: usize) -> usize {
     number(text, k) as usize
+}
+
+// 65,536 zeros, which hold the input of any test. Its length is all that is said of it.
+pub fn room() -> [u8; 65536]
+    ensures { 65536 ≡ length result }
+{
+    [0; 65536]
+}
+
+// How many bytes a read put at the start of a buffer: none where it failed.
+fn read_once(from: Stdin, buf: &mut [u8]) -> usize
+    ensures { result ≤ length buf.new }
+{
+    let mut from = from;
+    match from.read(buf) {
+        Ok(n) => n,
+        Err(_) => 0,
+    }
+}
+
+// Reads standard input until a buffer is full, the input ends or a read fails, and answers how many bytes it put at the buffer's start.
+pub fn read_input(from: Stdin, buf: &mut [u8]) -> usize
+    ensures { IsPrefixLen result buf.new }
+{
+    let mut done: usize = 0;
+    while done < buf.len() {
+        let n = read_once(from, &mut buf[done..]);
+        if n == 0 {
+            return done;
+        }
+        done += n;
+    }
+    done
 }

@@ -7,6 +7,7 @@
 #![tactic(auto)]
 
 use labels::{Label, LabelNo, LabelTable};
+use std::io::Stdout;
 use trace::{LineNo, Record, Run, RunTable};
 
 // The run that a text gives.
@@ -148,6 +149,11 @@ pub fn same_record(a: Record, b: Record) -> bool {
 }
 
 // Writes the counts of lines, runs and labels.
-pub fn write_counts(r: Record) {
-    test_text::write_three(r.lines.0 as u64, r.runs.count as u64, r.labels.count as u64);
+pub fn write_counts(out: Stdout, r: Record) {
+    test_text::write_three(
+        out,
+        r.lines.0 as u64,
+        r.runs.count as u64,
+        r.labels.count as u64,
+    );
 }

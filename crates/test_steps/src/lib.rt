@@ -5,6 +5,7 @@
 #![tactic(auto)]
 
 use lines::Next;
+use std::io::Stdout;
 use trace::{Record, StepOutcome, Stepped};
 
 // The answer to a line that is refused.
@@ -44,15 +45,15 @@ pub fn take_next(r: Record, log: &[u8], n: Next) -> Stepped {
 }
 
 // Writes what happened to a line.
-fn write_outcome(o: StepOutcome) {
+fn write_outcome(out: Stdout, o: StepOutcome) {
     match o {
         StepOutcome::Taken(k) => {
-            test_text::write(b"taken run ");
-            test_text::write_number(k.0 as u64);
+            test_text::write(out, b"taken run ");
+            test_text::write_number(out, k.0 as u64);
         }
-        StepOutcome::Refused(code) => test_text::write_refusal(code),
+        StepOutcome::Refused(code) => test_text::write_refusal(out, code),
     }
-    test_text::write(b"\n");
+    test_text::write(out, b"\n");
 }
 
 // Whether a line was taken.
@@ -64,7 +65,7 @@ fn was_taken(o: StepOutcome) -> bool {
 }
 
 // The record after the lines of a log. Kind `g` writes each, and stops at the first that is refused; `q` writes none; any other writes each.
-pub fn read_from(r: Record, log: &[u8], kind: u8) -> Record {
+pub fn read_from(out: Stdout, r: Record, log: &[u8], kind: u8) -> Record {
     let mut q = r;
     let mut place: usize = 0;
     let mut left: usize = 256;
@@ -77,7 +78,7 @@ pub fn read_from(r: Record, log: &[u8], kind: u8) -> Record {
         q = a.state;
         let o = a.outcome;
         if kind != b'q' {
-            write_outcome(o);
+            write_outcome(out, o);
         }
         if !was_taken(o) {
             if kind == b'g' {

@@ -1,40 +1,45 @@
-// Bytes and numbers on standard output, as the test programs write them.
+// Bytes and numbers on standard output, as the test programs write them. A write that fails is left out.
 #![tactic(auto)]
 
-use libc::STDOUT_FILENO;
+use std::io::Stdout;
 
-pub fn write(text: &[u8]) {
-    io::write_all(STDOUT_FILENO, text);
+pub fn write(out: Stdout, text: &[u8]) {
+    let _ = out.write_all(text);
 }
 
 // Writes a text and ends the line.
-pub fn write_line(text: &[u8]) {
-    write(text);
-    write(b"\n");
+pub fn write_line(out: Stdout, text: &[u8]) {
+    write(out, text);
+    write(out, b"\n");
 }
 
-pub fn write_number(n: u64) {
-    io::print_decimal(STDOUT_FILENO, n);
+pub fn write_number(out: Stdout, n: u64) {
+    let _ = print!(out; "{n}");
 }
 
 // Writes a number and a space.
-pub fn write_next(n: u64) {
-    write_number(n);
-    write(b" ");
+pub fn write_next(out: Stdout, n: u64) {
+    write_number(out, n);
+    write(out, b" ");
+}
+
+// Writes a number in hexadecimal, of eight digits at least.
+pub fn write_hex(out: Stdout, n: u64) {
+    let _ = print!(out; "{n:08x}");
 }
 
 // Writes a refusal: R and its number.
-pub fn write_refusal(code: u8) {
-    write(b"R");
-    write_number(code as u64);
+pub fn write_refusal(out: Stdout, code: u8) {
+    write(out, b"R");
+    write_number(out, code as u64);
 }
 
 // Ends a line with 1 or 0.
-pub fn write_answer(yes: bool) {
+pub fn write_answer(out: Stdout, yes: bool) {
     if yes {
-        write(b": 1\n");
+        write(out, b": 1\n");
     } else {
-        write(b": 0\n");
+        write(out, b": 0\n");
     }
 }
 
@@ -44,18 +49,18 @@ pub fn wide(b: u8) -> u64 {
 }
 
 // Writes three numbers, with a space between.
-pub fn write_three(a: u64, b: u64, c: u64) {
-    write_next(a);
-    write_next(b);
-    write_number(c);
+pub fn write_three(out: Stdout, a: u64, b: u64, c: u64) {
+    write_next(out, a);
+    write_next(out, b);
+    write_number(out, c);
 }
 
 // Writes each byte as a number, with a space before it.
-pub fn write_bytes(bytes: &[u8]) {
+pub fn write_bytes(out: Stdout, bytes: &[u8]) {
     let mut i: usize = 0;
     while i < bytes.len() {
-        write(b" ");
-        write_number(wide(bytes[i]));
+        write(out, b" ");
+        write_number(out, wide(bytes[i]));
         i += 1;
     }
 }
@@ -100,32 +105,32 @@ pub fn fill(bytes: &mut [u8], b: u8) {
 }
 
 // Writes a byte; after a `%` it is a letter, and stands for one of the numbers: `a` for the first.
-fn write_part(mark: bool, b: u8, numbers: &[u64]) {
+fn write_part(out: Stdout, mark: bool, b: u8, numbers: &[u64]) {
     if !mark {
         if b != b'%' {
-            write_byte(b);
+            write_byte(out, b);
         }
         return;
     }
     let k = (b % 32) as usize;
     if k <= numbers.len() {
         if 0 < k {
-            write_number(numbers[k - 1]);
+            write_number(out, numbers[k - 1]);
         }
     }
 }
 
-pub fn write_byte(b: u8) {
+pub fn write_byte(out: Stdout, b: u8) {
     let one = [b];
-    write(&one);
+    write(out, &one);
 }
 
 // Writes a text in which `%a` stands for the first of the numbers, `%b` for the second, and so on.
-pub fn write_filled(text: &[u8], numbers: &[u64]) {
+pub fn write_filled(out: Stdout, text: &[u8], numbers: &[u64]) {
     let mut mark = false;
     let mut i: usize = 0;
     while i < text.len() {
-        write_part(mark, text[i], numbers);
+        write_part(out, mark, text[i], numbers);
         mark = text[i] == b'%';
         i += 1;
     }

@@ -4,40 +4,41 @@ ghost use Rattle.rules.specs.Rules.{Taken};
 use super::verdicts;
 use lines::Next;
 use rules::Rule;
+use std::io::Stdout;
 use trace::{Record, StepOutcome};
 
 // Writes the verdict after the lines that left a record: H or F.
-fn write_last(file: &[u8], x: Rule, r: Record)
+fn write_last(out: Stdout, file: &[u8], x: Rule, r: Record)
     requires { Taken file.now x }
 {
     if !replay::is_record(r) {
         return;
     }
-    verdicts::write_verdict(timeline::judge_last(file, x, r));
+    verdicts::write_verdict(out, timeline::judge_last(file, x, r));
 }
 
 // Writes what a line leads to, and answers whether it was taken.
-fn show_line(file: &[u8], x: Rule, r: Record, o: StepOutcome) -> bool
+fn show_line(out: Stdout, file: &[u8], x: Rule, r: Record, o: StepOutcome) -> bool
     requires { Taken file.now x }
 {
     match o {
         StepOutcome::Taken(_) => {
-            write_last(file, x, r);
+            write_last(out, file, x, r);
             true
         }
         StepOutcome::Refused(code) => {
-            test_text::write_refusal(code);
+            test_text::write_refusal(out, code);
             false
         }
     }
 }
 
 // Writes the verdicts over a log, up to the first refused line.
-pub fn show_log(file: &[u8], x: Rule, log: &[u8])
+pub fn show_log(out: Stdout, file: &[u8], x: Rule, log: &[u8])
     requires { Taken file.now x }
 {
     let mut r = trace::no_lines();
-    write_last(file, x, r);
+    write_last(out, file, x, r);
     let mut place: usize = 0;
     let mut left: usize = 256;
     while 0 < left {
@@ -48,7 +49,7 @@ pub fn show_log(file: &[u8], x: Rule, log: &[u8])
         let a = test_steps::take_next(r, log, n);
         r = a.state;
         let o = a.outcome;
-        if !show_line(file, x, r, o) {
+        if !show_line(out, file, x, r, o) {
             return;
         }
         place = lines::place_after(n, place);

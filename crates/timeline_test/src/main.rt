@@ -8,47 +8,48 @@
 mod each;
 mod verdicts;
 
-use libc::STDIN_FILENO;
+use std::io::Stdout;
 
 // Reads a rule file and writes its verdicts over a log.
-fn judge(kind: u8, text: &[u8], log: &[u8]) {
+fn judge(out: Stdout, kind: u8, text: &[u8], log: &[u8]) {
     let mut file = [0u8; 640];
     let n = test_cases::bytes(text, &mut file);
-    verdicts::show(kind, &file[..n], log);
+    verdicts::show(out, kind, &file[..n], log);
 }
 
 // The length of the log after a case, and n before it.
-fn after(n: usize, kind: u8, text: &[u8], log: &mut [u8]) -> usize {
+fn after(out: Stdout, n: usize, kind: u8, text: &[u8], log: &mut [u8]) -> usize {
     if kind == b'l' {
         return test_cases::bytes(text, log);
     }
     if kind == b'=' {
-        test_text::write_line(text);
+        test_text::write_line(out, text);
         return n;
     }
     if kind != b'#' {
         if n <= log.len() {
-            judge(kind, text, &log[0..n]);
+            judge(out, kind, text, &log[0..n]);
         }
     }
     n
 }
 
-fn run(input: &[u8], log: &mut [u8]) {
+fn run(out: Stdout, input: &[u8], log: &mut [u8]) {
     let mut n: usize = 0;
     let mut at: usize = 0;
     while at < input.len() {
         let c = test_cases::case_at(input, at);
         let start = c.start;
         let end = c.end;
-        n = after(n, c.kind, &input[start..end], log);
+        n = after(out, n, c.kind, &input[start..end], log);
         at = c.next;
     }
 }
 
-fn main() {
-    let mut input = io::large_buffer();
+fn main(rt: HostRuntime) {
+    let out = rt.stdout();
+    let mut input = test_cases::room();
     let mut log = [0u8; 2048];
-    let n = io::read_full(STDIN_FILENO, &mut input);
-    run(&input[..n], &mut log);
+    let n = test_cases::read_input(rt.stdin(), &mut input);
+    run(out, &input[..n], &mut log);
 }

@@ -12,7 +12,7 @@
 // `=` writes its text.
 #![tactic(auto)]
 
-use libc::STDIN_FILENO;
+use std::io::Stdout;
 use trace::Record;
 
 // The record, and the record as it is changed.
@@ -23,57 +23,57 @@ struct State {
 }
 
 // Writes run k.
-fn show_run(r: Record, k: usize) {
+fn show_run(out: Stdout, r: Record, k: usize) {
     if k < 128 {
         let runs = r.runs;
         let x = runs.list[k];
-        test_text::write_next(x.id as u64);
-        test_text::write_next(x.begin.0 as u64);
-        test_text::write_next(x.end.0 as u64);
-        test_text::write_number(x.label.0 as u64);
-        test_text::write(b"\n");
+        test_text::write_next(out, x.id as u64);
+        test_text::write_next(out, x.begin.0 as u64);
+        test_text::write_next(out, x.end.0 as u64);
+        test_text::write_number(out, x.label.0 as u64);
+        test_text::write(out, b"\n");
     }
 }
 
 // Writes the counts, and whether accepted lines leave the record.
-fn show_counts(r: Record) {
-    test_text::write_number(r.lines.0 as u64);
-    test_text::write(b" lines, ");
-    test_text::write_number(r.runs.count as u64);
-    test_text::write(b" runs, ");
-    test_text::write_number(r.labels.count as u64);
-    test_text::write(b" labels, record");
-    test_text::write_answer(replay::is_record(r));
+fn show_counts(out: Stdout, r: Record) {
+    test_text::write_number(out, r.lines.0 as u64);
+    test_text::write(out, b" lines, ");
+    test_text::write_number(out, r.runs.count as u64);
+    test_text::write(out, b" runs, ");
+    test_text::write_number(out, r.labels.count as u64);
+    test_text::write(out, b" labels, record");
+    test_text::write_answer(out, replay::is_record(r));
 }
 
 // Writes each run.
-fn show_runs(r: Record) {
+fn show_runs(out: Stdout, r: Record) {
     let n = r.runs.count;
     let mut k: usize = 0;
     while k < n {
-        show_run(r, k);
+        show_run(out, r, k);
         k += 1;
     }
 }
 
 // Writes what a case shows of the record.
-fn show(r: Record, kind: u8, text: &[u8]) {
+fn show(out: Stdout, r: Record, kind: u8, text: &[u8]) {
     if kind == b'h' {
-        show_counts(r);
+        show_counts(out, r);
     }
     if kind == b'a' {
-        show_runs(r);
+        show_runs(out, r);
     }
     if kind == b'x' {
-        show_run(r, test_cases::size(text, 0));
+        show_run(out, r, test_cases::size(text, 0));
     }
 }
 
 // The record after the lines of a log.
-fn read(r: Record, kind: u8, text: &[u8]) -> Record {
+fn read(out: Stdout, r: Record, kind: u8, text: &[u8]) -> Record {
     let mut room = [0u8; 2048];
     let n = test_cases::bytes(text, &mut room);
-    test_steps::read_from(r, &room[..n], kind)
+    test_steps::read_from(out, r, &room[..n], kind)
 }
 
 // The state of a record that is not changed.
@@ -85,7 +85,7 @@ fn unchanged(r: Record) -> State {
 }
 
 // A change, which is asked about where its kind is in lower case.
-fn change(s: State, kind: u8, text: &[u8]) -> State {
+fn change(out: Stdout, s: State, kind: u8, text: &[u8]) -> State {
     let r = s.left;
     let q = s.changed;
     if kind < b'a' {
@@ -95,52 +95,56 @@ fn change(s: State, kind: u8, text: &[u8]) -> State {
             changed: x,
         };
     }
-    test_text::write(text);
-    test_text::write_answer(replay::is_record(test_records::changed(q, kind - 32, text)));
+    test_text::write(out, text);
+    test_text::write_answer(
+        out,
+        replay::is_record(test_records::changed(q, kind - 32, text)),
+    );
     unchanged(r)
 }
 
 // The state after a case.
-fn after(s: State, kind: u8, text: &[u8]) -> State {
+fn after(out: Stdout, s: State, kind: u8, text: &[u8]) -> State {
     let r = s.left;
     if kind == b'=' {
-        test_text::write(text);
-        test_text::write(b"\n");
+        test_text::write(out, text);
+        test_text::write(out, b"\n");
         return s;
     }
     if kind == b'z' {
         return unchanged(trace::no_lines());
     }
     if kind == b'g' || kind == b'G' || kind == b'q' {
-        return unchanged(read(r, kind, text));
+        return unchanged(read(out, r, kind, text));
     }
     if kind == b'h' || kind == b'a' || kind == b'x' {
-        show(r, kind, text);
+        show(out, r, kind, text);
         return s;
     }
     if kind == b'?' {
-        return change(s, 127, text);
+        return change(out, s, 127, text);
     }
     if kind < b'A' {
         return s;
     }
-    change(s, kind, text)
+    change(out, s, kind, text)
 }
 
-fn run(input: &[u8]) {
+fn run(out: Stdout, input: &[u8]) {
     let mut s = unchanged(trace::no_lines());
     let mut at: usize = 0;
     while at < input.len() {
         let c = test_cases::case_at(input, at);
         let start = c.start;
         let end = c.end;
-        s = after(s, c.kind, &input[start..end]);
+        s = after(out, s, c.kind, &input[start..end]);
         at = c.next;
     }
 }
 
-fn main() {
-    let mut input = io::large_buffer();
-    let n = io::read_full(STDIN_FILENO, &mut input);
-    run(&input[..n]);
+fn main(rt: HostRuntime) {
+    let out = rt.stdout();
+    let mut input = test_cases::room();
+    let n = test_cases::read_input(rt.stdin(), &mut input);
+    run(out, &input[..n]);
 }

@@ -7,10 +7,10 @@ use Rattle.monitor_test.proofs.run.Statement.{statement}
 use Rattle.monitor_test.proofs.run.Tie as tie
 
 abbrev invariant-loop : tie.invariant-loop
-invariant-loop input file₀ area₀ s₀ at₀ file area s at = (0 ≤ at) × (length file ≡ length file₀) × (length area ≡ length area₀)
+invariant-loop out input file₀ area₀ s₀ at₀ file area s at = (0 ≤ at) × (length file ≡ length file₀) × (length area ≡ length area₀)
 
 abbrev decreases-loop : tie.decreases-loop
-decreases-loop input file₀ area₀ s₀ at₀ file area s at = length input - at
+decreases-loop out input file₀ area₀ s₀ at₀ file area s at = length input - at
 
 loop-holds : tie.Need-loop-init invariant-loop decreases-loop
 loop-holds c = search rules

@@ -4,10 +4,10 @@ use Rattle.pairs_test.proofs.run.Statement.{statement}
 use Rattle.pairs_test.proofs.run.Tie as tie
 
 abbrev invariant-loop : tie.invariant-loop
-invariant-loop input work₀ l₀ r₀ n₀ at₀ work l r n at = (0 ≤ at) × (length work ≡ length work₀)
+invariant-loop out input work₀ l₀ r₀ n₀ at₀ work l r n at = (0 ≤ at) × (length work ≡ length work₀)
 
 abbrev decreases-loop : tie.decreases-loop
-decreases-loop input work₀ l₀ r₀ n₀ at₀ work l r n at = length input - at
+decreases-loop out input work₀ l₀ r₀ n₀ at₀ work l r n at = length input - at
 
 no-lines-requires : tie.Need-no-lines-requires invariant-loop decreases-loop
 no-lines-requires c κs = search rules

@@ -7,10 +7,10 @@ use Rattle.record_bytes_test.proofs.run.Statement.{statement}
 use Rattle.record_bytes_test.proofs.run.Tie as tie
 
 abbrev invariant-loop : tie.invariant-loop
-invariant-loop input bytes₀ work₀ n₀ at₀ bytes work n at = (0 ≤ at) × (length bytes ≡ length bytes₀) × (length work ≡ length work₀)
+invariant-loop out input bytes₀ work₀ n₀ at₀ bytes work n at = (0 ≤ at) × (length bytes ≡ length bytes₀) × (length work ≡ length work₀)
 
 abbrev decreases-loop : tie.decreases-loop
-decreases-loop input bytes₀ work₀ n₀ at₀ bytes work n at = length input - at
+decreases-loop out input bytes₀ work₀ n₀ at₀ bytes work n at = length input - at
 
 loop-holds : tie.Need-loop-init invariant-loop decreases-loop
 loop-holds c = search rules

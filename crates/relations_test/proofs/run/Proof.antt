@@ -6,10 +6,10 @@ use Rattle.relations_test.proofs.run.Statement.{statement}
 use Rattle.relations_test.proofs.run.Tie as tie
 
 abbrev invariant-loop : tie.invariant-loop
-invariant-loop input r₀ at₀ r at = 0 ≤ at
+invariant-loop out input r₀ at₀ r at = 0 ≤ at
 
 abbrev decreases-loop : tie.decreases-loop
-decreases-loop input r₀ at₀ r at = length input - at
+decreases-loop out input r₀ at₀ r at = length input - at
 
 no-lines-requires : tie.Need-no-lines-requires invariant-loop decreases-loop
 no-lines-requires c κs = search rules

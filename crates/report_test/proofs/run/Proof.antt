@@ -7,10 +7,10 @@ use Rattle.report_test.proofs.run.Statement.{statement}
 use Rattle.report_test.proofs.run.Tie as tie
 
 abbrev invariant-loop : tie.invariant-loop
-invariant-loop input file₀ log₀ s₀ at₀ file log s at = (length file ≡ length file₀) × (length log ≡ length log₀)
+invariant-loop out input file₀ log₀ s₀ at₀ file log s at = (length file ≡ length file₀) × (length log ≡ length log₀)
 
 abbrev decreases-loop : tie.decreases-loop
-decreases-loop input file₀ log₀ s₀ at₀ file log s at = length input - at
+decreases-loop out input file₀ log₀ s₀ at₀ file log s at = length input - at
 
 loop-holds : tie.Need-loop-init invariant-loop decreases-loop
 loop-holds c = search rules

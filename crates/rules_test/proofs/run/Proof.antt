@@ -7,10 +7,10 @@ use Rattle.rules_test.proofs.run.Statement.{statement}
 use Rattle.rules_test.proofs.run.Tie as tie
 
 abbrev invariant-loop : tie.invariant-loop
-invariant-loop input file₀ n₀ at₀ file n at = length file ≡ length file₀
+invariant-loop out input file₀ n₀ at₀ file n at = length file ≡ length file₀
 
 abbrev decreases-loop : tie.decreases-loop
-decreases-loop input file₀ n₀ at₀ file n at = length input - at
+decreases-loop out input file₀ n₀ at₀ file n at = length input - at
 
 loop-holds : tie.Need-loop-init invariant-loop decreases-loop
 loop-holds c = search rules

@@ -5,10 +5,10 @@ use Rattle.shape_test.proofs.write_nodes.Statement.{statement}
 use Rattle.shape_test.proofs.write_nodes.Tie as tie
 
 abbrev invariant-loop : tie.invariant-loop
-invariant-loop count masks heights n₀ n = n ≤ count
+invariant-loop out count masks heights n₀ n = n ≤ count
 
 abbrev decreases-loop : tie.decreases-loop
-decreases-loop count masks heights n₀ n = count - n
+decreases-loop out count masks heights n₀ n = count - n
 
 loop-holds : tie.Need-loop-init invariant-loop decreases-loop
 loop-holds c = search rules

@@ -5,10 +5,10 @@ use Rattle.test_steps.proofs.read_from.Statement.{statement}
 use Rattle.test_steps.proofs.read_from.Tie as tie
 
 abbrev invariant-loop : tie.invariant-loop
-invariant-loop log kind q₀ place₀ left₀ q place left = left ≤ 256
+invariant-loop out log kind q₀ place₀ left₀ q place left = left ≤ 256
 
 abbrev decreases-loop : tie.decreases-loop
-decreases-loop log kind q₀ place₀ left₀ q place left = left
+decreases-loop out log kind q₀ place₀ left₀ q place left = left
 
 loop-holds : tie.Need-loop-init invariant-loop decreases-loop
 loop-holds c = search rules

@@ -7,10 +7,10 @@ use Rattle.timeline_test.proofs.run.Statement.{statement}
 use Rattle.timeline_test.proofs.run.Tie as tie
 
 abbrev invariant-loop : tie.invariant-loop
-invariant-loop input log₀ n₀ at₀ log n at = (0 ≤ at) × (length log ≡ length log₀)
+invariant-loop out input log₀ n₀ at₀ log n at = (0 ≤ at) × (length log ≡ length log₀)
 
 abbrev decreases-loop : tie.decreases-loop
-decreases-loop input log₀ n₀ at₀ log n at = length input - at
+decreases-loop out input log₀ n₀ at₀ log n at = length input - at
 
 loop-holds : tie.Need-loop-init invariant-loop decreases-loop
 loop-holds c = search rules

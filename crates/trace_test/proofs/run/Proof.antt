@@ -6,10 +6,10 @@ use Rattle.trace_test.proofs.run.Statement.{statement}
 use Rattle.trace_test.proofs.run.Tie as tie
 
 abbrev invariant-loop : tie.invariant-loop
-invariant-loop input s₀ at₀ s at = 0 ≤ at
+invariant-loop out input s₀ at₀ s at = 0 ≤ at
 
 abbrev decreases-loop : tie.decreases-loop
-decreases-loop input s₀ at₀ s at = length input - at
+decreases-loop out input s₀ at₀ s at = length input - at
 
 no-lines-requires : tie.Need-no-lines-requires invariant-loop decreases-loop
 no-lines-requires c κs = search rules

@@ -5,10 +5,10 @@ use Rattle.trace_test.proofs.show_runs.Statement.{statement}
 use Rattle.trace_test.proofs.show_runs.Tie as tie
 
 abbrev invariant-loop : tie.invariant-loop
-invariant-loop r n k₀ k = k ≤ n
+invariant-loop out r n k₀ k = k ≤ n
 
 abbrev decreases-loop : tie.decreases-loop
-decreases-loop r n k₀ k = n - k
+decreases-loop out r n k₀ k = n - k
 
 loop-holds : tie.Need-loop-init invariant-loop decreases-loop
 loop-holds c = search rules

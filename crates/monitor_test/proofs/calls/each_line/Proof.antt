@@ -7,10 +7,10 @@ use Rattle.monitor_test.proofs.calls.each_line.Statement.{statement}
 use Rattle.monitor_test.proofs.calls.each_line.Tie as tie
 
 abbrev invariant-loop : tie.invariant-loop
-invariant-loop l kind file work₀ log q₀ place₀ left₀ work q place left = (left ≤ 256) × (length work ≡ length work₀)
+invariant-loop out l kind file work₀ log q₀ place₀ left₀ work q place left = (left ≤ 256) × (length work ≡ length work₀)
 
 abbrev decreases-loop : tie.decreases-loop
-decreases-loop l kind file work₀ log q₀ place₀ left₀ work q place left = left
+decreases-loop out l kind file work₀ log q₀ place₀ left₀ work q place left = left
 
 loop-holds : tie.Need-loop-init invariant-loop decreases-loop
 loop-holds c = search rules

@@ -5,10 +5,10 @@ use Rattle.timeline_test.proofs.each.show_log.Statement.{statement}
 use Rattle.timeline_test.proofs.each.show_log.Tie as tie
 
 abbrev invariant-loop : tie.invariant-loop
-invariant-loop file x log r₀ place₀ left₀ r place left = left ≤ 256
+invariant-loop out file x log r₀ place₀ left₀ r place left = left ≤ 256
 
 abbrev decreases-loop : tie.decreases-loop
-decreases-loop file x log r₀ place₀ left₀ r place left = left
+decreases-loop out file x log r₀ place₀ left₀ r place left = left
 
 no-lines-requires : tie.Need-no-lines-requires invariant-loop decreases-loop
 no-lines-requires c κs = search rules

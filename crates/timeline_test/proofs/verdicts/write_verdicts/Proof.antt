@@ -5,10 +5,10 @@ use Rattle.timeline_test.proofs.verdicts.write_verdicts.Statement.{statement}
 use Rattle.timeline_test.proofs.verdicts.write_verdicts.Tie as tie
 
 abbrev invariant-loop : tie.invariant-loop
-invariant-loop y lines line₀ line = line ≤ lines + 1
+invariant-loop out y lines line₀ line = line ≤ lines + 1
 
 abbrev decreases-loop : tie.decreases-loop
-decreases-loop y lines line₀ line = lines + 1 - line
+decreases-loop out y lines line₀ line = lines + 1 - line
 
 loop-holds : tie.Need-loop-init invariant-loop decreases-loop
 loop-holds c = search rules

@@ -1,12 +1,11 @@
-# What the commands share; check, explain, lesson, watch and examples/make read it. `root` is the folder with the README.
+# What the commands share; check, explain, lesson, watch, install and examples/make read it. `root` is the folder with the README.
 # Messages go to standard error under the command's name. Trouble ends a command with status 3. Standard input is left
 # to the command.
 # shellcheck shell=bash
 
 : "${root:?}"
 name=${0##*/}
-bin=$root/target/bin
-stamps=$root/target/stamp
+crates=$root/crates
 
 say() {
     printf '%s: %s\n' "$name" "$*" >&2
@@ -22,7 +21,8 @@ room=$(mktemp -d) || trouble "there is no room for temporary files"
 trap 'rm -rf -- "$room"' EXIT
 
 # The crates that programs are made of, one to a line: their own, and what these use of the crates that crates.txt lists.
-crates_of() { # PROGRAM..
+# Each comes behind those that it uses, in the order in which rt proves them.
+crates_of() { # CRATE..
     awk -F: -v programs="$*" '
         function visit(crate,   n, i, used) {
             if (!(crate in uses) || seen[crate]++) return
@@ -30,35 +30,51 @@ crates_of() { # PROGRAM..
             for (i = 1; i <= n; i++) visit(used[i])
             print crate
         }
-        /^[a-z]/ { uses[$1] = $2 }
+        /^[a-z]/ { split($1, word, " "); uses[word[1]] = $2 }
         END { count = split(programs, named, " "); for (k = 1; k <= count; k++) visit(named[k]) }' "$root/crates.txt"
 }
 
-# The stamp is there once the program is proved and was tried on its own expected output.
-is_built() { # PROGRAM
-    local crates
-    mapfile -t crates < <(crates_of "$1")
-    [ -x "$bin/$1" ] && [ -f "$stamps/$1" ] &&
-        [ -z "$(find "$root/crates.txt" "${crates[@]/#/$root/crates/}" -newer "$stamps/$1" -print -quit)" ]
+# What rt makes of a crate: the archive of a static library, or a program.
+file_of() { # CRATE
+    if [ "$1" = scene_log ]; then echo "$crates/$1/out/lib$1.a"; else echo "$crates/$1/out/$1"; fi
 }
 
-# Says each crate of an `rt check` as it is proved.
-progress() { # TOTAL
-    local line took at=0
+# Whether something that a crate is made of is newer than a file, or the file is missing. What rt writes, in out/, does not count.
+is_older() { # FILE CRATE..
+    [ ! -f "$1" ] || [ "$root/crates.txt" -nt "$1" ] ||
+        (cd "$crates" && [ -n "$(find "${@:2}" -name out -prune -o -path '*/*' -newer "$1" -print -quit)" ])
+}
+
+# The file is there once the crate is proved.
+is_built() { # CRATE
+    local used
+    mapfile -t used < <(crates_of "$1")
+    ! is_older "$(file_of "$1")" "${used[@]}"
+}
+
+# Says each crate as it is proved: rt names it, and says then what its proof came to. Crates that were proved before are left out.
+progress() { # CRATE..
+    local line crate='' begun=$SECONDS at all
+    mapfile -t all < <(crates_of "$@")
     while IFS= read -r line; do
-        [[ $line =~ ^rt:\ ([A-Za-z0-9_]+)\ proved\ \((.*)\)$ ]] || continue
-        at=$((at + 1)) took=${BASH_REMATCH[2]}
-        [[ $took != unchanged* ]] || took='proved before'
-        say "$at of $1: ${BASH_REMATCH[1]}, $took"
+        [[ ! $line =~ ^crate\ ([A-Za-z0-9_]+): ]] || crate=${BASH_REMATCH[1]}
+        [[ $crate && $line = logic=proved* ]] || continue
+        for at in "${!all[@]}"; do
+            [ "${all[at]}" != "$crate" ] || say "$((at + 1)) of ${#all[@]}: $crate, $((SECONDS - begun)) s"
+        done
+        crate='' begun=$SECONDS
     done
 }
 
-# Those of them that are to be proved, as far as times tell: never proved, changed since, or using one of these.
-to_prove() { # PROGRAM..
-    local crate uses used again left=' '
+# Those of them that are to be proved, as far as times tell: never proved, changed since, or using one of these. rt leaves a
+# stamp of a library that it proved.
+to_prove() { # CRATE..
+    local crate stamp uses used again left=' '
     for crate in $(crates_of "$@"); do
-        again=$(find "$root/crates/$crate" -newer "$stamps/$crate" -print -quit 2>/dev/null || echo never)
-        read -ra uses < <(sed -n "s/^$crate://p" "$root/crates.txt")
+        stamp=$crates/$crate/out/rlib/stamp again=''
+        [ ! -e "$crates/$crate/src/main.rt" ] || stamp=$crates/$crate/out/$crate.stamp
+        ! is_older "$stamp" "$crate" || again=$crate
+        read -ra uses < <(sed -nE "s/^$crate( [^:]*)?://p" "$root/crates.txt")
         for used in "${uses[@]}"; do
             [[ $left != *" $used "* ]] || again=$used
         done
@@ -67,26 +83,52 @@ to_prove() { # PROGRAM..
     echo "$left"
 }
 
-# Proves and builds those of the programs that are missing or older than their sources. A crate that is proved stays so,
-# so that a run which was broken off is gone on with. The estimate: two processors prove about 200,000 bytes of sources
-# a minute.
-build() { # PROGRAM..
-    local program programs all left bytes missing=()
-    for program; do
-        is_built "$program" || missing+=("$program")
+# Whether a program prints what the file stdout of its crate has, on the crate's other files. `rt ci` tries it so too.
+is_right() { # PROGRAM
+    local crate=$crates/$1 words=()
+    rm -rf "$room/data" && mkdir "$room/data" || trouble "there is no room for temporary files"
+    [ ! -e "$crate/data" ] || cp -r "$crate/data/." "$room/data" || trouble "there is no room for temporary files"
+    [ ! -e "$crate/args" ] || mapfile -t words <"$crate/args"
+    (cd "$room/data" && "$crate/out/$1" "${words[@]}") <"$crate/stdin" 2>"$room/said" | cmp -s - "$crate/stdout"
+}
+
+# Proves and builds those of the crates whose files are missing or older than their sources. A crate that is proved stays so,
+# so that a run which was broken off is gone on with. rt builds a program when it runs it, here on no input; then it is tried on
+# what its crate says that it prints. The estimate: two processors prove about 400,000 bytes of sources a minute.
+build() { # CRATE..
+    local crate named all left bytes missing=()
+    for crate; do
+        is_built "$crate" || missing+=("$crate")
     done
     [ ${#missing[@]} -gt 0 ] || return 0
-    programs=${missing[*]} programs=${programs// / and }
+    named=${missing[*]} named=${named// / and }
     command -v rt >/dev/null 2>&1 || trouble "the Rattle toolchain is not installed: 'rt' is not on the PATH"
     all=$(crates_of "${missing[@]}" | wc -l)
     read -ra left < <(to_prove "${missing[@]}")
-    bytes=$(find "$root/crates.txt" "${left[@]/#/$root/crates/}" -name must-fail -prune -o -type f -exec cat {} + | wc -c)
-    say "proving and building $programs: $all crates, ${#left[@]} to be proved, about $((bytes / 200000 + 1)) min"
-    if ! (cd "$root" && rt check "${missing[@]}") 2>&1 </dev/null | tee "$room/rt" | progress "$all"; then
+    bytes=$(find "$root/crates.txt" "${left[@]/#/$crates/}" \( -name must-fail -o -name out \) -prune -o -type f -exec cat {} + | wc -c)
+    say "proving and building $named: $all crates, ${#left[@]} to be proved, about $((bytes / 400000 + 1)) min"
+    if ! make_all "${missing[@]}" 2>&1 </dev/null | tee "$room/rt" | progress "${missing[@]}"; then
         tail -n 20 "$room/rt" >&2
-        trouble "$programs could not be built; the lines above say why"
+        trouble "$named could not be built; the lines above say why"
     fi
-    touch -c "${missing[@]/#/$stamps/}"
+    for crate in "${missing[@]}"; do
+        if [ "$crate" != scene_log ] && ! is_right "$crate"; then
+            rm -f "$(file_of "$crate")"
+            trouble "$crate does not print what crates/$crate/stdout has"
+        fi
+        touch -c "$(file_of "$crate")"
+    done
+}
+
+make_all() { # CRATE..
+    local crate
+    for crate; do
+        if [ "$crate" = scene_log ]; then
+            (cd "$crates/$crate" && rt lib) || return
+        else
+            (cd "$crates/$crate" && rt run >/dev/null) || return
+        fi
+    done
 }
 
 # Runs a program that turns a typed rule into a rule file, a rule file into text, or a label into its text in the file
@@ -94,7 +136,7 @@ build() { # PROGRAM..
 # prints nothing, and says R and a number on standard error: `refused` is this number, or empty.
 turn() { # PROGRAM FILE
     refused=''
-    if ! (cd "$room" && "$bin/$1" <"$2" >made 2>said); then
+    if ! (cd "$room" && "$(file_of "$1")" <"$2" >made 2>said); then
         cat "$room/said" >&2
         trouble "$1 ended before its time"
     elif [ ! -s "$room/made" ] && [[ $(cat "$room/said") =~ ^R([0-9]+)$ ]]; then
@@ -195,7 +237,7 @@ judge() { # RULE LOG [full]
     if [ -n "$refused" ]; then
         echo "0 R$refused" >"$room/report" || trouble "there is no room for temporary files"
     else
-        (cd "$room" && "$bin/log_check" "${@:3}" <log >report) || trouble "the check ended before its time"
+        (cd "$room" && "$(file_of log_check)" "${@:3}" <log >report) || trouble "the check ended before its time"
     fi
     case "$(tail -n 1 "$room/report")$(tail -c 1 "$room/report" | od -An -c)" in
         'T '*'\n' | '0 R'*'\n') ;;

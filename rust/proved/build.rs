@@ -1,5 +1,5 @@
-//! Finds the archive of the proved library: the file that SCENE_LOG_ARCHIVE names, or the one in `target/staticlib` above
-//! `rust/`, which `rt` makes where it is missing. Where there is none, and on a wrong system, it says what to do.
+//! Finds the archive of the proved library: the file that SCENE_LOG_ARCHIVE names, or the one in `crates/scene_log/out`
+//! beside `rust/`, which `rt` makes where it is missing. Where there is none, and on a wrong system, it says what to do.
 
 use std::env;
 use std::path::{Path, PathBuf};
@@ -40,23 +40,23 @@ fn archive() -> Result<PathBuf, String> {
             Err(format!("SCENE_LOG_ARCHIVE is {}, and that is no file {NAME}", path.display()))
         };
     }
-    let root = Path::new(env!("CARGO_MANIFEST_DIR")).join("../..");
-    let path = root.join("target/staticlib").join(NAME);
+    let its_crate = Path::new(env!("CARGO_MANIFEST_DIR")).join("../../crates/scene_log");
+    let path = its_crate.join("out").join(NAME);
     if !path.is_file() {
-        make(&root)?;
+        make(&its_crate)?;
     }
     Ok(path)
 }
 
 /// Has `rt` prove and build the archive.
-fn make(root: &Path) -> Result<(), String> {
-    println!("cargo::warning=target/staticlib/{NAME} is missing: `rt staticlib scene_log` makes it, which takes minutes");
-    match Command::new("rt").args(["staticlib", "scene_log"]).current_dir(root).output() {
+fn make(its_crate: &Path) -> Result<(), String> {
+    println!("cargo::warning=crates/scene_log/out/{NAME} is missing: `rt lib` makes it, which takes minutes");
+    match Command::new("rt").arg("lib").current_dir(its_crate).output() {
         Ok(output) if output.status.success() => Ok(()),
-        Ok(_) => Err("`rt staticlib scene_log` fails: run it in the folder above rust/ to see why".into()),
+        Ok(_) => Err("`rt lib` fails: run it in crates/scene_log to see why".into()),
         Err(_) => Err(format!(
-            "there is no target/staticlib/{NAME}, and the Rattle toolchain that makes it is not installed: 'rt' is not \
-             on the PATH. Install it, or let SCENE_LOG_ARCHIVE name the archive"
+            "there is no crates/scene_log/out/{NAME}, and the Rattle toolchain that makes it is not installed: 'rt' is \
+             not on the PATH. Install it, or let SCENE_LOG_ARCHIVE name the archive"
         )),
     }
 }

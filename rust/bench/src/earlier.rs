@@ -107,7 +107,7 @@ pub struct Library {
 impl Library {
     /// The present library, in a shared object as `scripts/earlier` makes it.
     pub fn present() -> Result<Library, String> {
-        let made = Path::new(env!("CARGO_MANIFEST_DIR")).join("../../target/staticlib/libscene_log.a");
+        let made = Path::new(env!("CARGO_MANIFEST_DIR")).join("../../crates/scene_log/out/libscene_log.a");
         let archive = env::var_os("SCENE_LOG_ARCHIVE").map_or(made, PathBuf::from);
         let object = temporary_object();
         let mut gcc = Command::new("gcc");

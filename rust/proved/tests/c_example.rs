@@ -15,7 +15,7 @@ fn the_c_example_prints_what_was_worked_out() {
         .args(["-std=c99", "-Wall", "-Wextra", "-pedantic", "-Werror", "-I"])
         .arg(root.join("include"))
         .arg(root.join("include/example.c"))
-        .arg(root.join("target/staticlib/libscene_log.a"))
+        .arg(root.join("crates/scene_log/out/libscene_log.a"))
         .arg("-o")
         .arg(&program)
         .output()

@@ -24,10 +24,10 @@ fn first_seed() -> u64 {
     std::env::var("FIRST_SEED").map_or(0, |text| text.parse().expect("FIRST_SEED is a number"))
 }
 
-/// The program, built by `rt check relations_test`.
+/// The program, built by `rt ci`, or by `rt run` in its crate.
 fn program() -> PathBuf {
-    let path = Path::new(env!("CARGO_MANIFEST_DIR")).join("../../target/bin/relations_test");
-    let message = "target/bin/relations_test is missing: run `rt check relations_test` in the folder above rust/";
+    let path = Path::new(env!("CARGO_MANIFEST_DIR")).join("../../crates/relations_test/out/relations_test");
+    let message = "the program is missing: run `rt run </dev/null` in crates/relations_test";
     assert!(path.is_file(), "{message}");
     path
 }

@@ -1,4 +1,5 @@
-//! The check program, built by `rt check log_check`: what it prints, and with which arguments it is run in either mode.
+//! The check program, built by `rt ci`, or by `rt run` in its crate: what it prints, and with which arguments it is run
+//! in either mode.
 
 use reference::Mode;
 use std::fs;
@@ -9,8 +10,8 @@ use std::sync::atomic::{AtomicU32, Ordering};
 
 /// The program, to be run in this folder with these arguments. It reads its rule from the folder.
 pub fn program(folder: &Path, arguments: &[String]) -> Command {
-    let path = Path::new(env!("CARGO_MANIFEST_DIR")).join("../../target/bin/log_check");
-    assert!(path.is_file(), "target/bin/log_check is missing: run `rt check log_check` in the folder above rust/");
+    let path = Path::new(env!("CARGO_MANIFEST_DIR")).join("../../crates/log_check/out/log_check");
+    assert!(path.is_file(), "the check program is missing: run `rt run </dev/null` in crates/log_check");
     let mut command = Command::new(path);
     command.args(arguments).current_dir(folder);
     command

@@ -1,12 +1,12 @@
 -- The answer of the public call, from those of its parts.
-use Prim.Native.Nat.{ℕ, zero, suc, ◌+◌, ◌-◌, ◌*◌, ◌<◌, ◌≤◌}
+use Prim.Native.Nat.{ℕ, ◌+◌, ◌*◌, ◌<◌, ◌≤◌}
 use mathlib.Core.Path.{◌≡◌, refl, sym, ap, ap₂, subst, ◌∙◌}
-use mathlib.Core.Bool.{Bool, true, false, not, ◌&&◌, cond}
+use mathlib.Core.Bool.{Bool, true, false, cond}
 use mathlib.Core.Option.{Option, none, some}
 use mathlib.Core.List.{List, [], ◌∷◌, ◌++◌}
 use native.Mathlib.Omega.{arith}
-use lib.Dec.{eqb, leb, ltb}
-use lib.ListN.{length, get_or, take, drop, replicate, length-replicate, length-append}
+use lib.Dec.{ltb}
+use lib.ListN.{length, take, drop, replicate, length-replicate}
 use lib.Seq.{take_at, length-take-le}
 use borrow.Author.Tests.{lt-ltb, le-ltb, ltb-false}
 use Rattle.rules.specs.Formula.{Formula, no_scope, scoped, shallow}
@@ -16,10 +16,9 @@ use Rattle.signs.specs.Signs.{Got, read, outside, skip}
 use Rattle.atoms.specs.Tree.{Tree, size}
 use Rattle.atoms.specs.Emit.{emit}
 use Rattle.typed.specs.Grammar.{read_or, wholly, whole, tree_of, read_text}
-use Rattle.typed_formula.specs.Meaning.{label_text, formula_for}
+use Rattle.typed_formula.specs.Meaning.{formula_for}
 use Rattle.typed.specs.Parsing.{ParseSays, Parses}
 use Rattle.typed.specs.declared.Parsed.{Parsed}
-use Rattle.typed.specs.declared.Parsed.TheVariants as Parsed
 use Rattle.typed_formula.proofs.FileSays.{Known}
 use Rattle.typed_formula.proofs.Relations.{Every, or_known}
 use Rattle.text_labels.specs.Pieces.{texts, good_labels?}
@@ -27,13 +26,10 @@ use Rattle.typed_checks.specs.Tests.{places_in, decided, Decides}
 use Rattle.typed_grammar.specs.File.{labels_of}
 use Rattle.typed_checks.specs.Said.{judged}
 use Rattle.typed_checks.specs.declared.Decision.{Decision}
-use Rattle.typed_checks.specs.declared.Decision.TheVariants as Decision
 use Rattle.typed_checks.proofs.Judged.{table_labels, decided-judged}
 use Rattle.typed_file.specs.File.{file_from, file_of, Fit}
-use Rattle.typed_file.specs.Answer.{or_refused, answer_of, bytes_of, typed_answer, WritesRule, ReadsText}
-use Rattle.output.specs.Written.{left_by}
+use Rattle.typed_file.specs.Answer.{or_refused, answer_of, bytes_of, typed_answer, ReadsText}
 use Rattle.output.specs.declared.Written.{Written}
-use Rattle.output.specs.declared.Written.TheVariants as Written
 use Rattle.typed_file.proofs.TakenFile.{Passed, rule, file-taken, file-formula, file_fits}
 
 -- ── the tree of a text ──

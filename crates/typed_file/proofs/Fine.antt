@@ -1,15 +1,14 @@
 -- The nodes of a rule that is not refused are in range.
 use Prim.Native.Nat.{ℕ, zero, suc, ◌+◌, ◌-◌, ◌*◌, ◌<◌, ◌≤◌}
-use mathlib.Core.Path.{◌≡◌, refl, sym, ap, ap₂, subst, ◌∙◌}
-use mathlib.Core.Bool.{Bool, true, false, not, ◌&&◌, ◌||◌, cond}
-use mathlib.Core.List.{List, [], ◌∷◌, ◌++◌}
+use mathlib.Core.Path.{◌≡◌, refl, sym, subst}
+use mathlib.Core.Bool.{true, ◌&&◌}
+use mathlib.Core.List.{List, []}
 use native.Mathlib.Omega.{arith}
-use lib.Dec.{eqb, ltb}
+use lib.Dec.{eqb}
 use lib.ListN.{length, get_or}
-use borrow.Author.Tests.{eq-eqb, ne_eqb, lt-ltb, eqb-true}
-use Rattle.lists.proofs.Cases.{either_eq, either_lt, either_bool, and_left, and_right, no_both}
-use Rattle.rules.specs.Formula as Formula
-use Rattle.rules.specs.Formula.{Formula, Scope, no_scope, enter, scoped, shallow}
+use borrow.Author.Tests.{lt-ltb, eqb-true}
+use Rattle.lists.proofs.Cases.{either_eq, either_lt, either_bool, and_left, and_right}
+use Rattle.rules.specs.Formula.{Formula, Scope, enter, scoped, shallow}
 use Rattle.rules.specs.Table.{op_of, in_range}
 use Rattle.rules.proofs.Scopes.{scoped_both_left, scoped_both_right, shallow-both_left, shallow-both_right, shallow_none}
 use Rattle.atoms.specs.Tree.{Tree, either, both, neg, exists, has, pair, size}

@@ -1,26 +1,23 @@
 -- Where the parts of a file stand: reading back what was written.
-use Prim.Native.Nat.{ℕ, zero, suc, ◌+◌, ◌-◌, ◌*◌, ◌<◌, ◌≤◌}
-use mathlib.Core.Path.{◌≡◌, refl, sym, ap, ap₂, subst, ◌∙◌}
-use mathlib.Core.Bool.{Bool, true, false, not, ◌&&◌, ◌||◌, cond}
+use Prim.Native.Nat.{ℕ, zero, suc, ◌+◌, ◌*◌, ◌<◌, ◌≤◌}
+use mathlib.Core.Path.{◌≡◌, refl, sym, ap, ap₂, ◌∙◌}
+use mathlib.Core.Bool.{true, false, ◌&&◌}
 use mathlib.Core.List.{List, [], ◌∷◌, ◌++◌, append_assoc}
 use native.Mathlib.Omega.{arith}
-use native.Mathlib.Numerals.{add-one}
-use lib.Dec.{eqb, leb}
+use lib.Dec.{leb}
 use lib.ListN.{length, get_or, take, drop, length-append, get_or-append}
-use lib.Seq.{take-suc, take_all, take-length, split_at, get_or_at, drop_at, take_at, get_or-append-add, take-append_seam, drop-append_seam, get_or-append_seam}
-use borrow.Author.Tests.{eq-eqb, ne_eqb, le-leb, leb-true}
+use lib.Seq.{take-suc, take-length, split_at, drop_at, get_or-append-add, take-append_seam, get_or-append_seam}
+use borrow.Author.Tests.{le-leb, leb-true}
 use Rattle.lists.specs.Lists.{all?, same?}
-use Rattle.lists.proofs.Cases.{either_eq, either_lt, and_left, and_right}
-use Rattle.rules.specs.Parts.{byte, part, and_then, label_count, read_mark, read_version, read_label_count, read_head, read_node_count}
+use Rattle.lists.proofs.Cases.{either_eq, and_left, and_right}
+use Rattle.rules.specs.Parts.{byte, label_count, read_mark, read_version, read_label_count}
 use Rattle.rules.specs.Labels.{label_start, label_from, listed, read_label, read_labels, LabelOk, LabelsOk}
 use Rattle.rules.specs.Labels as Labels
 use Rattle.rules.specs.Table.{node_at, read_node, read_nodes, NodeOk}
-use Rattle.rules.specs.declared.Read.{Read}
 use Rattle.rules.specs.declared.Read.TheVariants.{At, Refused}
-use Rattle.rules.proofs.Parts.{part_ok, then_at, mark_ok, version_ok, labels_ok, head_count}
+use Rattle.rules.proofs.Parts.{part_ok, then_at, mark_ok, version_ok, labels_ok}
 use Rattle.labels.specs.Label.{letter?, capitals, label_form?}
 use Rattle.labels.proofs.Capitals.{capitals-letters}
-use Rattle.typed_grammar.specs.File.{place_in}
 use Rattle.text_labels.specs.Pieces.{good_labels?}
 use Rattle.typed_checks.proofs.Numbers.{Distinct}
 use Rattle.grammar.specs.Layout.{front, labels_part}

@@ -1,42 +1,38 @@
 -- The file of a text that nothing refuses is taken, and its formula is what the text says.
 use Prim.Native.Nat.{ℕ, zero, suc, ◌+◌, ◌-◌, ◌*◌, ◌<◌, ◌≤◌}
 use mathlib.Core.Path.{◌≡◌, refl, sym, ap, ap₂, subst, ◌∙◌}
-use mathlib.Core.Bool.{Bool, true, false, not, ◌&&◌, cond}
-use mathlib.Core.Option.{Option, none, some}
+use mathlib.Core.Bool.{true}
 use mathlib.Core.List.{List, [], ◌∷◌, ◌++◌}
 use native.Mathlib.Omega.{arith}
-use lib.Dec.{eqb, ltb}
 use lib.ListN.{length, get_or}
-use borrow.Author.Tests.{eq-eqb, ne_eqb, ltb-true, le-ltb}
-use Rattle.lists.proofs.Cases.{either_lt, no_both}
+use borrow.Author.Tests.{eq-eqb, ne_eqb}
+use Rattle.lists.proofs.Cases.{no_both}
 use Rattle.rules.specs.Formula.{Formula, no_scope, scoped, shallow}
-use Rattle.rules.specs.Parts.{byte, label_count, read_mark, read_version, read_label_count, read_head, read_node_count}
+use Rattle.rules.specs.Parts.{byte, label_count, read_node_count}
 use Rattle.rules.specs.Labels.{label_start, read_labels}
 use Rattle.rules.specs.Labels as Labels
 use Rattle.rules.specs.Table.{op_of, in_range, node_at, fields_ok, read_nodes, NodeOk, Good}
 use Rattle.rules.specs.Checks.{named_once, root_formula, whole_table}
 use Rattle.rules.specs.Rules.{rule_of, formula_of, Taken}
 use Rattle.rules.specs.declared.Rule.{Rule}
-use Rattle.rules.specs.declared.Read.{Read}
-use Rattle.rules.specs.declared.Read.TheVariants.{At, Refused}
+use Rattle.rules.specs.declared.Read.TheVariants.{At}
 use Rattle.rules.specs.declared.RuleRead.{RuleRead}
-use Rattle.rules.specs.declared.RuleRead.TheVariants as RuleRead
 use Rattle.rules.proofs.Parts.{head_count, count_ok}
 use Rattle.rules.proofs.Rules.{rule_whole, rule_taken}
 use Rattle.atoms.specs.Tree.{Tree, size}
 use Rattle.atoms.specs.Emit.{emit}
 use Rattle.typed_formula.specs.Meaning.{label_text, formula_for}
-use Rattle.typed_formula.proofs.Stands.{Stands, emit-stands, emit-long, size_some}
+use Rattle.typed_formula.proofs.Stands.{emit-stands, emit-long, size_some}
 use Rattle.typed_formula.proofs.FileSays.{Laid, Known}
 use Rattle.typed_formula.proofs.Reported.{Reported, reported}
 use Rattle.typed_grammar.specs.File.{place_in}
 use Rattle.text_labels.specs.Pieces.{texts, good_labels?}
 use Rattle.typed_grammar.specs.File.{labels_of}
-use Rattle.typed_checks.proofs.Numbers.{Among, number_at_lem, texts-long}
+use Rattle.typed_checks.proofs.Numbers.{number_at_lem, texts-long}
 use Rattle.grammar.specs.Layout.{front, labels_part}
 use Rattle.typed_file.specs.File.{second, file_from, Fit}
 use Rattle.typed_file.proofs.ReadBack.{good_form, labels_all, nodes_all, labels_fine, label_is, head_read, count_labels, place_last, count_nodes, file-long, node_kind, node_first, node_second}
-use Rattle.typed_file.proofs.Fine.{AllIn, all_in, labels_distinct, Fine, fine_tree}
+use Rattle.typed_file.proofs.Fine.{all_in, labels_distinct, Fine, fine_tree}
 
 -- what is known of a text that nothing refuses
 pub record Passed (n : ℕ) (f : Formula) : Type 0 where

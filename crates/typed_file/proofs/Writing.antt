@@ -1,12 +1,10 @@
 -- Writing the parts of a file one behind another.
-use Prim.Native.Nat.{ℕ, zero, suc, ◌+◌, ◌-◌, ◌*◌, ◌<◌, ◌≤◌}
-use mathlib.Core.Path.{◌≡◌, refl, sym, ap, ap₂, subst, ◌∙◌}
-use mathlib.Core.Bool.{Bool, true, false, cond}
+use Prim.Native.Nat.{ℕ, ◌+◌, ◌-◌, ◌*◌, ◌<◌, ◌≤◌}
+use mathlib.Core.Path.{◌≡◌, refl, sym, ap, ◌∙◌}
 use mathlib.Core.List.{List, [], ◌∷◌, ◌++◌, append_assoc}
 use native.Mathlib.Omega.{arith}
 use native.Mathlib.Numerals.{add-one}
-use lib.Dec.{eqb}
-use lib.ListN.{length, get_or, take, drop, length-append}
+use lib.ListN.{length, get_or, take, drop}
 use lib.Seq.{take-suc, take_all}
 use borrow.Author.Tests.{eq-eqb, ne_eqb}
 use Rattle.lists.proofs.Lists.{append-nil}
@@ -16,7 +14,6 @@ use Rattle.labels.specs.Label.{capitals, label_of}
 use Rattle.labels.specs.declared.Label.{Label}
 use Rattle.labels.proofs.Same.{text_of}
 use Rattle.typed_formula.specs.Meaning.{label_text}
-use Rattle.typed_grammar.specs.File.{place_in}
 use Rattle.text_labels.specs.Pieces.{Cut, Finds, texts}
 use Rattle.text_labels.specs.declared.Piece.{Piece}
 use Rattle.typed_checks.proofs.Numbers.{texts-long, texts_append}

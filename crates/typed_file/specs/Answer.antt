@@ -1,5 +1,5 @@
 -- What reading a typed rule answers, and the buffer that it leaves.
-use Rattle.std.specs.Prelude.{ℕ, ◌≤◌, ◌≡◌, cond, List, [], ◌++◌, ltb, length, take, drop}
+use Rattle.std.specs.Prelude.{ℕ, ◌≤◌, ◌≡◌, cond, List, [], ltb, length, take}
 use Rattle.std.proofs.Math.Option.{Option, none, some}
 use Rattle.rules.specs.Limits.{max_file_bytes}
 use Rattle.rules.specs.Rules.{Taken, formula_of}
@@ -9,11 +9,9 @@ use Rattle.typed.specs.Grammar.{read_text}
 use Rattle.typed_formula.specs.Meaning.{formula_for}
 use Rattle.typed_checks.specs.Said.{judged}
 use Rattle.typed_checks.specs.declared.Decision.{Decision}
-use Rattle.typed_checks.specs.declared.Decision.TheVariants as Decision
 use Rattle.typed_file.specs.File.{file_of}
 use Rattle.output.specs.Written.{left_by}
 use Rattle.output.specs.declared.Written.{Written}
-use Rattle.output.specs.declared.Written.TheVariants as Written
 
 -- a file of n bytes, where nothing refuses it
 abbrev pub or_refused : Decision → ℕ → Written

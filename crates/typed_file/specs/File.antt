@@ -6,7 +6,6 @@ use Rattle.atoms.specs.Tree.{Tree, size}
 use Rattle.atoms.specs.Emit.{emit}
 use Rattle.typed_formula.specs.Meaning.{label_text, formula_for}
 use Rattle.typed_grammar.specs.File.{place_in}
-use Rattle.text_labels.specs.Pieces.{texts}
 use Rattle.typed_grammar.specs.File.{labels_of}
 
 -- "each label as a length byte and its bytes"

@@ -3,10 +3,9 @@ use Prim.Native.Nat.{ℕ, ◌+◌, ◌≤◌}
 use mathlib.Core.Path.{◌≡◌, refl, sym, ap, subst, ◌∙◌}
 use mathlib.Core.List.{List, [], ◌∷◌, ◌++◌}
 use native.Mathlib.Omega.{arith}
-use borrow.Author.Rules.{zero≤}
 use lib.ListN.{length, take, drop, length-append}
 use lib.Seq.{length-take-le, take-append_seam}
-use Rattle.io.specs.Counts.{IsPrefixLen}
+use Rattle.input.specs.Counts.{IsPrefixLen}
 use Rattle.input.specs.Filled.{Fills}
 use Rattle.input.specs.declared.Filled.{Filled}
 use Rattle.input.specs.declared.Filled.TheVariants.{Bytes, Failed}
@@ -30,7 +29,7 @@ refusal_written c line line₁ line₂ line₃ p q r a b d =
     }
 
 pub no_error : (w : Written) (n : ℕ) (line : List ℕ) → w ≡ Length n → PutsError w line 0
-no_error w n line e = record { counts = (zero≤, refl); bytes = sym (ap error_of e) }
+no_error w n line e = record { counts = (omega arith, refl); bytes = sym (ap error_of e) }
 
 pub error-put : (w : Written) (c : ℕ) (line line' : List ℕ) (n : ℕ) → w ≡ Refused c → WritesFew 5 (refusal_line c) line 0 line' n → PutsError w line' n
 unfolding put
@@ -85,13 +84,13 @@ module _ (bytes before : List ℕ) where
       let k : n ≡ length bytes = l n refl in
       let h : n ≤ length (bytes ++ drop n before) = simp length-append (omega arith) in
       ((h, sym (length-take-le n (bytes ++ drop n before) h)), ap (λ (m : ℕ). take m (bytes ++ drop n before)) k ∙ take-append_seam bytes (drop n before))
-  bytes_first (Refused c) l = ((zero≤, refl), refl)
+  bytes_first (Refused c) l = ((omega arith, refl), refl)
 
 module _ (f g : List ℕ → List ℕ) (room : ℕ) (a : Filled) (buffer : List ℕ) where
   pub answered-nothing : (out : List ℕ) → a ≡ Failed → Answered f g room a buffer (Length 0) out
   answered-nothing out e =
       record {
-        counts = (zero≤, refl);
+        counts = (omega arith, refl);
         output = tells_nothing f room a buffer e;
         error = tells_nothing g room a buffer e;
       }

@@ -37,5 +37,5 @@ pub returns : goal.returns
 returns c = let a = c.args in
     let marked = c.rebound-rows in
     λ M rows dropped.
-    some_by_rows M (formula_at a.file.now a.first a.child) (binding a.b) (binding marked.result) a.v a.dom a.keep _ a.runs _ _ c.keep_rows.new.1.1.1.1.1.1.0
+    some_by_rows M (formula_at a.file.now a.first a.child) (binding a.b) (binding marked.result) a.v a.dom a.keep _ a.runs _ _ c.keep_rows.new.m
     rows.runs_are c.requires.0.runs_few c.requires.1 marked.ensures dropped c.start_rows.ensures (c.keep_rows.ensures.1 M rows) c.all_rows.ensures

@@ -13,7 +13,6 @@ use Rattle.lists.proofs.Lists.{Free}
 use Rattle.lists.proofs.Cases.{either_eq, either_lt, and_left, and_right, no_both}
 use Rattle.labels.specs.Label.{digit?, letter?, capitals, label_length?, label_form?}
 use Rattle.labels.proofs.Capitals.{capitals-letters}
-use Rattle.rules.specs.Formula as Formula
 use Rattle.rules.specs.Formula.{Formula}
 use Rattle.rules.specs.Parts.{label_count}
 use Rattle.rules.specs.Labels.{label_bytes}
@@ -21,7 +20,6 @@ use Rattle.rules.specs.Table.{node_at, Good, formula_at}
 use Rattle.rules.proofs.Formulas.{and_left_child, and_right_child, not_child, some_child, label_number, by_atom, formula-and, formula_not, formula_some, formula-has}
 use Rattle.levels.specs.Levels.{Levels, binds, renamed}
 use Rattle.spelling.proofs.RoundTrip.{Plain}
-use Rattle.typed_grammar.specs.Grammar as Tree
 use Rattle.typed_grammar.specs.Grammar.{Tree}
 use Rattle.typed_grammar.specs.Formula.{Names, formula_in}
 use Rattle.typed_grammar.specs.File.{place_in, with_label}
@@ -81,6 +79,7 @@ module _ (P : List ℕ → Type 0) where
   said_labelled (Tree.neg t) ns a l (in_not i) = said_labelled t ns a l i
   said_labelled (Tree.exists n t) ns a l (in_some i) = said_labelled t (n ∷ ns) a l i
   said_labelled (Tree.has n m) ns a l here = a
+  said_labelled (Tree.pair _ _ _) ns a l x = elim x [ ]
 
   -- a formula whose labels are in capitals and have no quote
   pub labelled_plain : ((l : List ℕ) → P l → Free 39 l × (capitals l ≡ l)) → (f : Formula) → Labelled P f → Plain f

@@ -1,6 +1,6 @@
 -- A rule file's rule, written as text and read again. "Reading that text yields a rule of equal verdict on every log, and writing it
 -- again yields the same text."
-use Rattle.std.specs.Prelude.{ℕ, ◌≤◌, ◌≡◌, ◌↔◌, List, length}
+use Rattle.std.specs.Prelude.{ℕ, ◌≤◌, ◌≡◌, ◌↔◌, length}
 use Rattle.trace.specs.Trace.{Trace}
 use Rattle.rules.specs.Limits.{max_file_bytes}
 use Rattle.rules.specs.Formula.{Formula}

@@ -1,18 +1,16 @@
 -- The text of a node from those of its children.
-use Prim.Native.Nat.{ℕ, zero, suc, ◌+◌, ◌-◌, ◌*◌, ◌<◌, ◌≤◌}
-use mathlib.Core.Path.{◌≡◌, refl, sym, ap, ap₂, subst, ◌∙◌}
-use mathlib.Core.Bool.{Bool, true, false, cond}
-use mathlib.Core.List.{List, [], ◌∷◌, ◌++◌, append_assoc}
+use Prim.Native.Nat.{ℕ, suc, ◌+◌, ◌*◌, ◌<◌, ◌≤◌}
+use mathlib.Core.Path.{◌≡◌, refl, sym, ap, ap₂, ◌∙◌}
+use mathlib.Core.List.{List, [], ◌∷◌, ◌++◌}
 use native.Mathlib.Omega.{arith}
 use native.Mathlib.Numerals.{add-one}
-use lib.ListN.{length, get_or, length-append}
+use lib.ListN.{length, length-append}
 use Rattle.output.specs.Output.{Appends}
 use Rattle.output.proofs.Output.{appends_more, appends_same}
-use Rattle.rules.specs.Formula as Formula
 use Rattle.rules.specs.Formula.{Formula}
 use Rattle.rules.specs.Parts.{label_count}
 use Rattle.rules.specs.Labels.{LabelsOk}
-use Rattle.rules.specs.Table.{op_of, shape, node_at, Good, formula_at, AtomOk}
+use Rattle.rules.specs.Table.{node_at, formula_at, AtomOk}
 use Rattle.rules.specs.declared.Node.{Node}
 use Rattle.rules.proofs.Formulas.{good_room, and_left_child, and_right_child, not_child, some_child, some_variable, atom_fields, by_atom, op_pair_lem, formula-and, formula_not, formula_some, formula-has}
 use Rattle.levels.specs.Levels.{Levels, binds}

@@ -1,28 +1,26 @@
 -- Every text fits in the buffer, and the answer of the public call.
-use Prim.Native.Nat.{ℕ, zero, suc, ◌+◌, ◌-◌, ◌*◌, ◌<◌, ◌≤◌}
-use mathlib.Core.Path.{◌≡◌, refl, sym, ap, ap₂, subst, fun_ext, ◌∙◌}
-use mathlib.Core.Bool.{Bool, true, false, ◌&&◌, cond}
-use mathlib.Core.List.{List, [], ◌∷◌, ◌++◌}
+use Prim.Native.Nat.{ℕ, zero, suc, ◌-◌, ◌<◌, ◌≤◌}
+use mathlib.Core.Path.{◌≡◌, refl, sym, ap, ap₂, subst, ◌∙◌}
+use mathlib.Core.Bool.{true}
+use mathlib.Core.List.{List, [], ◌++◌}
 use native.Mathlib.Omega.{arith}
 use lib.Dec.{eqb}
-use lib.ListN.{length, get_or, take, drop, replicate}
+use lib.ListN.{length, take, drop}
 use lib.Seq.{take_at}
 use borrow.Author.Tests.{eqb-true, lt-ltb, le-ltb}
 use Rattle.lists.proofs.Cases.{either_eq, either_lt, and_left, and_right}
 use Rattle.output.specs.Output.{Appends}
 use Rattle.output.proofs.Output.{appends_front}
-use Rattle.rules.specs.Formula.{Formula}
-use Rattle.rules.specs.Parts.{byte, label_count}
-use Rattle.rules.specs.Labels.{label_start, label_bytes, LabelsOk}
+use Rattle.rules.specs.Parts.{label_count}
+use Rattle.rules.specs.Labels.{LabelsOk}
 use Rattle.rules.specs.Table.{node_at, Good, formula_at}
-use Rattle.rules.specs.Checks.{times_named, once_below, named_once}
-use Rattle.rules.specs.Rules.{rule_of, formula_of, Taken, ReadsRule}
+use Rattle.rules.specs.Checks.{times_named, once_below}
+use Rattle.rules.specs.Rules.{formula_of, Taken, ReadsRule}
 use Rattle.rules.specs.declared.Rule.{Rule}
 use Rattle.rules.specs.declared.RuleRead.{RuleRead}
-use Rattle.rules.specs.declared.RuleRead.TheVariants as RuleRead
 use Rattle.grammar.proofs.RuleMet.{rule_met}
 use Rattle.grammar.proofs.Stands.{rule_says}
-use Rattle.rules.proofs.Formulas.{good-child, and_left_child, and_right_child, not_child, some_child, atom_fields, by_atom, formula-and, formula_not, formula_some, formula-has}
+use Rattle.rules.proofs.Formulas.{and_left_child, and_right_child, not_child, some_child, atom_fields, by_atom, formula-and, formula_not, formula_some, formula-has}
 use Rattle.rules.proofs.Labels.{label_length}
 use Rattle.spelling.specs.Written.{write}
 use Rattle.spelling.proofs.Weights.{Short, write-short, not_yet, root_light}
@@ -32,9 +30,7 @@ use Rattle.levels.specs.Carried.{levels_of}
 use Rattle.levels.specs.declared.VarLevels.{VarLevels}
 use Rattle.typed_grammar.specs.File.{node_count}
 use Rattle.spelling.proofs.Texts.{write_text}
-use Rattle.output.specs.Written.{left_by}
 use Rattle.output.specs.declared.Written.{Written}
-use Rattle.output.specs.declared.Written.TheVariants as Written
 
 -- ── labels have at most 24 bytes ──
 short_below : (file : List ℕ) (p : ℕ) → LabelsOk file (label_count file) → (m n : ℕ) → n < m → Good file p n → Short (formula_at file p n)

@@ -1,5 +1,5 @@
 -- The text of a rule file's rule, and what writing it answers.
-use Rattle.std.specs.Prelude.{ℕ, suc, ◌+◌, ◌≤◌, ◌≡◌, cond, List, [], ◌∷◌, ◌++◌, ltb, length, take}
+use Rattle.std.specs.Prelude.{ℕ, ◌+◌, ◌≤◌, ◌≡◌, cond, List, [], ◌∷◌, ◌++◌, ltb, length, take}
 use Rattle.rules.specs.Formula as Formula
 use Rattle.rules.specs.Formula.{Formula}
 use Rattle.rules.specs.Labels.{LabelsOk}
@@ -9,7 +9,6 @@ use Rattle.rules.specs.Rules.{rule_of, formula_of}
 use Rattle.rules.specs.declared.Node.{Node}
 use Rattle.rules.specs.declared.Rule.{Rule}
 use Rattle.rules.specs.declared.RuleRead.{RuleRead}
-use Rattle.rules.specs.declared.RuleRead.TheVariants as RuleRead
 use Rattle.grammar.specs.MetRule.{MetRule}
 use Rattle.grammar.specs.Stands.{RuleFile}
 use Rattle.levels.specs.declared.VarLevels.{VarLevels}
@@ -18,7 +17,6 @@ use Rattle.typed_grammar.specs.Text.{letter, rule_text}
 use Rattle.spelling.specs.Written.{write}
 use Rattle.output.specs.Written.{left_by}
 use Rattle.output.specs.declared.Written.{Written}
-use Rattle.output.specs.declared.Written.TheVariants as Written
 
 -- the formula of a node without children
 abbrev pub atom_of : List ℕ → Node → Formula

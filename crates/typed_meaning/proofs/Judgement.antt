@@ -10,7 +10,6 @@ use Rattle.typed_grammar.specs.File.{labels_of}
 use Rattle.text_labels.specs.Pieces.{good_labels?}
 use Rattle.typed_checks.specs.Said.{judged}
 use Rattle.typed_checks.specs.declared.Decision.{Decision}
-use Rattle.typed_checks.specs.declared.Decision.TheVariants as Decision
 use Rattle.typed_file.proofs.TakenFile.{Passed}
 
 -- at most 64 nodes, and at most 16 labels

@@ -72,6 +72,7 @@ among_all (of_and x y) ns ls a l (in_second i) = among_all y ns ls a.1 l i
 among_all (of_not x) ns ls a l (in_not i) = among_all x ns ls a l i
 among_all (of_some n x) ns ls a l (in_some i) = among_all x _ ls a l i
 among_all (of_label n e) ns ls a l here = subst (Among ls) e a
+among_all (of_pair _ _ _ _ _) ns ls a l x = elim x [ ]
 
 -- ── the form of labels ──
 -- good labels are labels

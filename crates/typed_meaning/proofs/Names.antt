@@ -7,7 +7,6 @@ use native.Mathlib.Omega.{arith}
 use lib.ListN.{length}
 use borrow.Author.Tests.{le-ltb}
 use Rattle.lists.proofs.Cases.{no_both, and_left, and_right}
-use Rattle.rules.specs.Formula as Formula
 use Rattle.rules.specs.Formula.{Formula, no_scope, scoped, shallow}
 use Rattle.atoms.specs.Tree as Kept
 use Rattle.atoms.specs.Tree.{size}

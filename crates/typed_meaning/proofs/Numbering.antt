@@ -9,7 +9,6 @@ use lib.ListN.{length, get_or, replicate, length-replicate}
 use borrow.Author.Tests.{eq-eqb, ne_eqb}
 use Rattle.lists.proofs.Cases.{either_eq}
 use Rattle.lists.proofs.Lists.{append-nil}
-use Rattle.rules.specs.Formula as Formula
 use Rattle.rules.specs.Formula.{Formula}
 use Rattle.rules.specs.Table.{pairing_of}
 use Rattle.rules.specs.declared.Node.{Node}

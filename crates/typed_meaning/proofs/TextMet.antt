@@ -28,12 +28,10 @@ use Rattle.typed_grammar.proofs.Sound.{reads-says}
 use Rattle.typed_grammar.proofs.Complete.{says-reads}
 use Rattle.typed_checks.specs.Said.{judged}
 use Rattle.typed_checks.specs.declared.Decision.{Decision}
-use Rattle.typed_checks.specs.declared.Decision.TheVariants as Decision
 use Rattle.typed_file.specs.File.{file_of}
 use Rattle.typed_file.specs.Answer.{or_refused, answer_of, bytes_of, typed_answer}
 use Rattle.typed_file.proofs.TakenFile.{Passed, rule, file_rule, file-formula}
 use Rattle.output.specs.declared.Written.{Written}
-use Rattle.output.specs.declared.Written.TheVariants as Written
 use Rattle.typed_meaning.specs.Written.{WritesSaid}
 use Rattle.typed_meaning.proofs.Numbering.{file-numbered}
 use Rattle.typed_meaning.proofs.LabelsSaid.{listed-different, different-few, good_labels, bad_label}

@@ -14,10 +14,10 @@ ghost use Rattle.input.specs.declared.Filled.TheVariants.{Bytes};
 ghost use Rattle.told.specs.Told.{error_of};
 ghost use Rattle.label_text.specs.Printed.{book_room, label_room, refused_line, PrintsText, PrintsRefusal};
 
-use input::Filled;
+use input::{Filled, Streams};
 use label_book::Piece;
-use libc::{STDERR_FILENO, STDIN_FILENO, STDOUT_FILENO};
 use output::Written;
+use std::rt::Files;
 use told::LINE_BYTES;
 
 // One byte more than the longest book that is taken, so that a longer one is seen to be too long.
@@ -34,37 +34,42 @@ fn book_buffer() -> [u8; BOOK_ROOM]
 }
 
 // Says on standard error that the book is too long, if it fills the buffer.
-fn complain_of_length(a: Filled) {
+fn complain_of_length(streams: Streams, a: Filled) {
     match a {
         Filled::Failed => return,
         Filled::Bytes(n) => {
             if n < BOOK_ROOM {
                 return;
             }
-            io::write_all(STDERR_FILENO, b"label_text: the book is too long\n");
+            let _ = streams
+                .error
+                .write_all(b"label_text: the book is too long\n");
             return;
         }
     }
 }
 
 // Puts the book's first bytes at the start of the buffer.
-fn read_book(book: &mut [u8]) -> Filled
+fn read_book<F: Files>(files: &F, streams: Streams, book: &mut [u8]) -> Filled
     requires { length book.old ≡ book_room }
     ensures { Fills result book.new }
 {
-    let a = input::read_file(b"book", book);
-    input::complain(a, b"label_text: book");
-    complain_of_length(a);
+    let mut why = None;
+    let a = input::read_file(files, b"book", book, &mut why);
+    input::complain(a, b"label_text: book", why, streams.error);
+    complain_of_length(streams, a);
     a
 }
 
 // Puts the input's first bytes at the start of the buffer.
-fn read_label(label: &mut [u8]) -> Filled
+fn read_label(streams: Streams, label: &mut [u8]) -> Filled
     requires { length label.old ≡ label_room }
     ensures { Fills result label.new }
 {
-    let a = input::fill(STDIN_FILENO, label);
-    input::complain(a, b"label_text: standard input");
+    let mut from = streams.input;
+    let mut why = None;
+    let a = input::fill(&mut from, label, &mut why);
+    input::complain(a, b"label_text: standard input", why, streams.error);
     a
 }
 
@@ -81,43 +86,59 @@ fn refusal_of(p: Piece) -> Written
 
 // Writes a text to standard output, and says on standard error where that fails. It asks that this is the text to be printed of the two
 // buffers and what the two reads answered.
-fn print_text(book: &[u8], a: Filled, label: &[u8], b: Filled, text: &[u8])
+fn print_text(streams: Streams, book: &[u8], a: Filled, label: &[u8], b: Filled, text: &[u8])
     requires { PrintsText a book.now b label.now text.now }
 {
-    if !io::write_all(STDOUT_FILENO, text) {
-        os::fail(b"label_text: standard output");
+    if let Err(e) = streams.output.write_all(text) {
+        input::fail(b"label_text: standard output", Some(e), streams.error);
     }
 }
 
 // Writes a refusal's line to standard error. It asks that this is the line to be printed of the two buffers and what the two reads
 // answered.
-fn print_refusal(book: &[u8], a: Filled, label: &[u8], b: Filled, line: &[u8])
+fn print_refusal(streams: Streams, book: &[u8], a: Filled, label: &[u8], b: Filled, line: &[u8])
     requires { PrintsRefusal a book.now b label.now line.now }
 {
-    io::write_all(STDERR_FILENO, line);
+    let _ = streams.error.write_all(line);
 }
 
 // Writes the text of n bytes of the book and m of the label, which is what the two reads brought.
-fn show_text<'a>(book: &'a [u8], a: Filled, n: usize, label: &'a [u8], b: Filled, m: usize)
+fn show_text<'a>(
+    streams: Streams,
+    book: &'a [u8],
+    a: Filled,
+    n: usize,
+    label: &'a [u8],
+    b: Filled,
+    m: usize,
+)
     requires { (a ≡ Bytes n) × (b ≡ Bytes m) × Fills a book.now × Fills b label.now × (n < book_room) }
 {
     let text = label_book::text_for(&book[..n], &label[..m], 0, m);
-    print_text(book, a, label, b, text);
+    print_text(streams, book, a, label, b, text);
 }
 
 // Writes the line of their refusal, if they are refused.
-fn show_refusal<'a>(book: &'a [u8], a: Filled, n: usize, label: &'a [u8], b: Filled, m: usize)
+fn show_refusal<'a>(
+    streams: Streams,
+    book: &'a [u8],
+    a: Filled,
+    n: usize,
+    label: &'a [u8],
+    b: Filled,
+    m: usize,
+)
     requires { (a ≡ Bytes n) × (b ≡ Bytes m) × Fills a book.now × Fills b label.now × (n < book_room) }
 {
     let p = label_book::piece_for(&book[..n], &label[..m], 0, m);
     let w = refusal_of(p);
     let mut line = [0u8; LINE_BYTES];
     let end = told::put_error(&mut line, w);
-    print_refusal(book, a, label, b, &line[..end]);
+    print_refusal(streams, book, a, label, b, &line[..end]);
 }
 
 // Prints what is to be printed of the two buffers and what the two reads answered: nothing where one failed or the book is too long.
-fn print<'a>(book: &'a [u8], a: Filled, label: &'a [u8], b: Filled)
+fn print<'a>(streams: Streams, book: &'a [u8], a: Filled, label: &'a [u8], b: Filled)
     requires { Fills a book.now × Fills b label.now }
 {
     match a {
@@ -126,8 +147,8 @@ fn print<'a>(book: &'a [u8], a: Filled, label: &'a [u8], b: Filled)
             Filled::Failed => return,
             Filled::Bytes(m) => {
                 if n < BOOK_ROOM {
-                    show_text(book, a, n, label, b, m);
-                    show_refusal(book, a, n, label, b, m);
+                    show_text(streams, book, a, n, label, b, m);
+                    show_refusal(streams, book, a, n, label, b, m);
                 }
                 return;
             }
@@ -135,10 +156,15 @@ fn print<'a>(book: &'a [u8], a: Filled, label: &'a [u8], b: Filled)
     }
 }
 
-fn main() {
+fn main(rt: HostRuntime) {
+    let streams = Streams {
+        input: rt.stdin(),
+        output: rt.stdout(),
+        error: rt.stderr(),
+    };
     let mut book = book_buffer();
     let mut label = [0u8; LABEL_ROOM];
-    let a = read_book(&mut book);
-    let b = read_label(&mut label);
-    print(&book, a, &label, b);
+    let a = read_book(&rt, streams, &mut book);
+    let b = read_label(streams, &mut label);
+    print(streams, &book, a, &label, b);
 }

@@ -3,9 +3,8 @@ use Prim.Native.Nat.{ℕ}
 use mathlib.Core.Path.{◌≡◌, refl, sym, ap, ap₂, subst, ◌∙◌}
 use mathlib.Core.List.{List, []}
 use native.Mathlib.Omega.{arith}
-use borrow.Author.Rules.{zero≤}
 use lib.ListN.{take}
-use Rattle.io.specs.Counts.{IsPrefixLen}
+use Rattle.input.specs.Counts.{IsPrefixLen}
 use Rattle.input.specs.declared.Filled.{Filled}
 use Rattle.input.specs.declared.Filled.TheVariants.{Bytes, Failed}
 use Rattle.whole_log.specs.declared.Mode.{Mode}
@@ -25,7 +24,7 @@ not_both a n e f = let q : Bytes n ≡ Failed = sym e ∙ f in let z : ◌≡◌
 module _ (word : List ℕ) (r l : Filled) (rule log text : List ℕ) where
   pub rule_unread : r ≡ Failed → IsPrefixLen 0 text × Prints word r rule l log (take 0 text)
   rule_unread e = (
-    (zero≤, refl),
+    (omega arith, refl),
     record {
       read = λ n m p q. absurd (not_both r n p e);
       whole = λ n m p q. absurd (not_both r n p e);
@@ -37,7 +36,7 @@ module _ (word : List ℕ) (r l : Filled) (rule log text : List ℕ) where
 
   pub log_unread : l ≡ Failed → IsPrefixLen 0 text × Prints word r rule l log (take 0 text)
   log_unread e = (
-    (zero≤, refl),
+    (omega arith, refl),
     record {
       read = λ n m p q. absurd (not_both l m q e);
       whole = λ n m p q. absurd (not_both l m q e);

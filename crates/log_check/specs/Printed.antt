@@ -1,7 +1,7 @@
 -- What the program is to print, of what it read.
 use Rattle.std.specs.Prelude.{ℕ, ◌≡◌, ◌↔◌, cond, List, [], take}
 use Rattle.lists.specs.Lists.{bytes, same?}
-use Rattle.io.specs.Counts.{IsPrefixLen}
+use Rattle.input.specs.Counts.{IsPrefixLen}
 use Rattle.input.specs.declared.Filled.{Filled}
 use Rattle.input.specs.declared.Filled.TheVariants.{Bytes, Failed}
 use Rattle.whole_log.specs.declared.Mode.{Mode}

@@ -8,7 +8,7 @@
 
 ghost use Rattle.std.specs.Prelude.{◌≤◌, ◌≡◌, length, take};
 ghost use Rattle.lists.specs.Lists.{bytes, same?};
-ghost use Rattle.io.specs.Counts.{IsPrefixLen};
+ghost use Rattle.input.specs.Counts.{IsPrefixLen};
 ghost use Rattle.lists.specs.Limits.{max_lines};
 ghost use Rattle.report.specs.Report.{report_size};
 ghost use Rattle.input.specs.Filled.{Fills};
@@ -16,11 +16,11 @@ ghost use Rattle.log_check.specs.Printed.{rule_room, log_room, mode_said, Printe
 ghost use Rattle.pairs.specs.declared.Layout.TheVariants.{Half};
 ghost use Rattle.pairs.specs.Layout.{work_size};
 
-use input::Filled;
-use libc::{STDIN_FILENO, STDOUT_FILENO};
+use input::{Filled, Streams};
 use lists::MAX_LINES;
 use pairs::{HALF_BYTES, Layout};
 use report::{REPORT_BYTES, Reported};
+use std::rt::{Env, Files};
 use whole_log::Mode;
 
 // One byte more than the longest rule file, so that a longer one is seen to be too long.
@@ -62,22 +62,25 @@ fn mode_of(word: &[u8]) -> Mode
 }
 
 // Puts the rule file's first bytes at the start of the buffer.
-fn read_rule(rule: &mut [u8]) -> Filled
+fn read_rule<F: Files>(files: &F, streams: Streams, rule: &mut [u8]) -> Filled
     requires { length rule.old ≡ rule_room }
     ensures { Fills result rule.new }
 {
-    let a = input::read_rule(rule);
-    input::complain(a, b"log_check: rule.rul");
+    let mut why = None;
+    let a = input::read_rule(files, rule, &mut why);
+    input::complain(a, b"log_check: rule.rul", why, streams.error);
     a
 }
 
 // Puts the log's first bytes at the start of the buffer.
-fn read_log(log: &mut [u8]) -> Filled
+fn read_log(streams: Streams, log: &mut [u8]) -> Filled
     requires { length log.old ≡ log_room }
     ensures { Fills result log.new }
 {
-    let a = input::fill(STDIN_FILENO, log);
-    input::complain(a, b"log_check: standard input");
+    let mut from = streams.input;
+    let mut why = None;
+    let a = input::fill(&mut from, log, &mut why);
+    input::complain(a, b"log_check: standard input", why, streams.error);
     a
 }
 
@@ -131,31 +134,54 @@ fn text_of(
 
 // Writes a text to standard output, and says on standard error where that fails. It asks that this is the text to be printed of the
 // word, the two buffers and what the two reads answered.
-fn hand_on(word: &[u8], rule: &[u8], r: Filled, log: &[u8], l: Filled, text: &[u8])
+fn hand_on(
+    streams: Streams,
+    word: &[u8],
+    rule: &[u8],
+    r: Filled,
+    log: &[u8],
+    l: Filled,
+    text: &[u8],
+)
     requires { Prints word.now r rule.now l log.now text.now }
 {
-    if !io::write_all(STDOUT_FILENO, text) {
-        os::fail(b"log_check: standard output");
+    if let Err(e) = streams.output.write_all(text) {
+        input::fail(b"log_check: standard output", Some(e), streams.error);
     }
 }
 
 // Prints what is to be printed of the word, the two buffers and what the two reads answered.
-fn print(word: &[u8], rule: &[u8], r: Filled, log: &[u8], l: Filled)
+fn print(streams: Streams, word: &[u8], rule: &[u8], r: Filled, log: &[u8], l: Filled)
     requires { Fills r rule.now × Fills l log.now }
 {
     let mut work = [0u8; HALF_BYTES];
     let mut verdicts = [0u8; MAX_LINES];
     let mut text = [0u8; REPORT_BYTES];
     let size = text_of(word, rule, r, log, l, &mut work, &mut verdicts, &mut text);
-    hand_on(word, rule, r, log, l, &text[..size]);
+    hand_on(streams, word, rule, r, log, l, &text[..size]);
 }
 
-fn main() {
+// Puts the first argument at the start of the buffer, and answers its length: none where there is no such argument, or it is longer.
+fn read_word<E: Env>(env: &E, word: &mut [u8]) -> usize
+    ensures { IsPrefixLen result word.new }
+{
+    match env.arg(1, word) {
+        Ok(n) => n,
+        Err(_) => 0,
+    }
+}
+
+fn main(rt: HostRuntime) {
+    let streams = Streams {
+        input: rt.stdin(),
+        output: rt.stdout(),
+        error: rt.stderr(),
+    };
     let mut word = [0u8; WORD_ROOM];
-    let size = os::arg(1, &mut word);
+    let size = read_word(&rt, &mut word);
     let mut rule = [0u8; RULE_ROOM];
     let mut log = [0u8; LOG_ROOM];
-    let r = read_rule(&mut rule);
-    let l = read_log(&mut log);
-    print(&word[..size], &rule, r, &log, l);
+    let r = read_rule(&rt, streams, &mut rule);
+    let l = read_log(streams, &mut log);
+    print(streams, &word[..size], &rule, r, &log, l);
 }

@@ -3,7 +3,6 @@ use Prim.Native.Nat.{ℕ}
 use mathlib.Core.Path.{◌≡◌, refl, sym, ap, subst, ◌∙◌}
 use mathlib.Core.List.{List}
 use native.Mathlib.Omega.{arith}
-use borrow.Author.Rules.{zero≤}
 use lib.ListN.{length, take}
 use Rattle.input.specs.declared.Filled.{Filled}
 use Rattle.input.specs.declared.Filled.TheVariants.{Bytes, Failed}
@@ -27,7 +26,7 @@ module _ (r l : Filled) (rule log text : List ℕ) where
   nothing : ((n m : ℕ) → r ≡ Bytes n → l ≡ Bytes m → ⊥) → Prepared r rule l log text 0
   nothing none =
       record {
-        counts = (zero≤, refl);
+        counts = (omega arith, refl);
         prints = record { read = λ n m p q. absurd (none n m p q); whole = λ n m p q. absurd (none n m p q); rule_failed = λ p. refl; log_failed = λ p. refl };
       }
 

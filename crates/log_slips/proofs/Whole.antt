@@ -5,10 +5,9 @@ use mathlib.Core.Path.{◌≡◌, refl, ap, sym, ◌∙◌}
 use mathlib.Core.Bool.{Bool, true, false}
 use mathlib.Core.List.{List, [], ◌++◌, append-nil}
 use native.Mathlib.Omega.{arith}
-use borrow.Author.Rules.{zero≤}
 use lib.ListN.{length, take, drop}
 use lib.Seq.{length-take-le}
-use Rattle.io.specs.Counts.{IsPrefixLen}
+use Rattle.input.specs.Counts.{IsPrefixLen}
 use Rattle.lists.proofs.Cases.{either_bool, never}
 use Rattle.lines.specs.Log.{lines_of}
 use Rattle.trace.specs.declared.Record.{Record}
@@ -57,8 +56,8 @@ walk_starts file log text r e h =
       trace = no_trace;
       accepted = no_bytes;
       encoded = e;
-      within = zero≤;
-      few = zero≤;
+      within = omega arith;
+      few = omega arith;
       room = h;
       shown = λ x p f. refl;
     }

@@ -3,7 +3,7 @@
 -- one of another form, `0 R` and the number. Numbers are decimal, with one space between two, and every line ends in
 -- LF.
 use Rattle.std.specs.Prelude.{ℕ, ◌+◌, ◌≡◌, List, [], ◌∷◌, ◌++◌, take}
-use Rattle.io.specs.Counts.{IsPrefixLen}
+use Rattle.input.specs.Counts.{IsPrefixLen}
 use Rattle.input.specs.declared.Filled.{Filled}
 use Rattle.input.specs.declared.Filled.TheVariants.{Bytes, Failed}
 use Rattle.lines.specs.Log.{lines_of}

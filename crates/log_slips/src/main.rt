@@ -15,11 +15,11 @@ ghost use Rattle.slip_form.specs.Slips.{slip_runs};
 ghost use Rattle.log_slips.specs.Printed.{rule_room, log_room, runs_text, slip_text, Printed, Prints, Prepared};
 ghost use Rattle.log_slips.specs.Walk.{found_text, text_size, Walked, Refuses, Stops, TakesLine, Steps, ShowsLines};
 
-use input::Filled;
-use libc::{STDIN_FILENO, STDOUT_FILENO};
+use input::{Filled, Streams};
 use lines::Next;
 use slip_form::Slip;
 use slips::{Finding, Found};
+use std::rt::Files;
 use trace::{Record, StepOutcome};
 
 // One byte more than the longest rule file, so that a longer one is seen to be too long.
@@ -41,22 +41,25 @@ struct Walk {
 }
 
 // Puts the rule file's first bytes at the start of the buffer.
-fn read_rule(rule: &mut [u8]) -> Filled
+fn read_rule<F: Files>(files: &F, streams: Streams, rule: &mut [u8]) -> Filled
     requires { length rule.old ≡ rule_room }
     ensures { Fills result rule.new }
 {
-    let a = input::read_rule(rule);
-    input::complain(a, b"log_slips: rule.rul");
+    let mut why = None;
+    let a = input::read_rule(files, rule, &mut why);
+    input::complain(a, b"log_slips: rule.rul", why, streams.error);
     a
 }
 
 // Puts the log's first bytes at the start of the buffer.
-fn read_log(log: &mut [u8]) -> Filled
+fn read_log(streams: Streams, log: &mut [u8]) -> Filled
     requires { length log.old ≡ log_room }
     ensures { Fills result log.new }
 {
-    let a = input::fill(STDIN_FILENO, log);
-    input::complain(a, b"log_slips: standard input");
+    let mut from = streams.input;
+    let mut why = None;
+    let a = input::fill(&mut from, log, &mut why);
+    input::complain(a, b"log_slips: standard input", why, streams.error);
     a
 }
 
@@ -220,27 +223,32 @@ fn text_of(rule: &[u8], r: Filled, log: &[u8], l: Filled, text: &mut [u8]) -> us
 
 // Writes a text to standard output, and says on standard error where that fails. It asks that this is the text to be printed of the
 // two buffers and what the two reads answered.
-fn hand_on(rule: &[u8], r: Filled, log: &[u8], l: Filled, text: &[u8])
+fn hand_on(streams: Streams, rule: &[u8], r: Filled, log: &[u8], l: Filled, text: &[u8])
     requires { Prints r rule.now l log.now text.now }
 {
-    if !io::write_all(STDOUT_FILENO, text) {
-        os::fail(b"log_slips: standard output");
+    if let Err(e) = streams.output.write_all(text) {
+        input::fail(b"log_slips: standard output", Some(e), streams.error);
     }
 }
 
 // Prints what is to be printed of the two buffers and what the two reads answered.
-fn print(rule: &[u8], r: Filled, log: &[u8], l: Filled)
+fn print(streams: Streams, rule: &[u8], r: Filled, log: &[u8], l: Filled)
     requires { Fills r rule.now × Fills l log.now }
 {
     let mut text = [0u8; TEXT_ROOM];
     let size = text_of(rule, r, log, l, &mut text);
-    hand_on(rule, r, log, l, &text[..size]);
+    hand_on(streams, rule, r, log, l, &text[..size]);
 }
 
-fn main() {
+fn main(rt: HostRuntime) {
+    let streams = Streams {
+        input: rt.stdin(),
+        output: rt.stdout(),
+        error: rt.stderr(),
+    };
     let mut rule = [0u8; RULE_ROOM];
     let mut log = [0u8; LOG_ROOM];
-    let r = read_rule(&mut rule);
-    let l = read_log(&mut log);
-    print(&rule, r, &log, l);
+    let r = read_rule(&rt, streams, &mut rule);
+    let l = read_log(streams, &mut log);
+    print(streams, &rule, r, &log, l);
 }

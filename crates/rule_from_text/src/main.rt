@@ -11,8 +11,7 @@ ghost use Rattle.input.specs.Filled.{Fills};
 ghost use Rattle.told.specs.Told.{Answered};
 ghost use Rattle.rule_from_text.specs.Printed.{text_room, file_printed, refusal_printed, PrintsFile, PrintsRefusal};
 
-use input::Filled;
-use libc::{STDERR_FILENO, STDIN_FILENO, STDOUT_FILENO};
+use input::{Filled, Streams};
 use output::Written;
 use told::LINE_BYTES;
 use typed_file::FILE_ROOM;
@@ -21,12 +20,14 @@ use typed_file::FILE_ROOM;
 const TEXT_ROOM: usize = 4097;
 
 // Puts the text's first bytes at the start of the buffer.
-fn read_text(text: &mut [u8]) -> Filled
+fn read_text(streams: Streams, text: &mut [u8]) -> Filled
     requires { length text.old ≡ text_room }
     ensures { Fills result text.new }
 {
-    let a = input::fill(STDIN_FILENO, text);
-    input::complain(a, b"rule_from_text: standard input");
+    let mut from = streams.input;
+    let mut why = None;
+    let a = input::fill(&mut from, text, &mut why);
+    input::complain(a, b"rule_from_text: standard input", why, streams.error);
     a
 }
 
@@ -44,36 +45,41 @@ fn make_file(text: &[u8], a: Filled, file: &mut [u8]) -> Written
 
 // Writes a rule file to standard output, and says on standard error where that fails. It asks that this is the file to be printed of the
 // buffer and what the read answered.
-fn print_file(text: &[u8], a: Filled, file: &[u8])
+fn print_file(streams: Streams, text: &[u8], a: Filled, file: &[u8])
     requires { PrintsFile a text.now file.now }
 {
-    if !io::write_all(STDOUT_FILENO, file) {
-        os::fail(b"rule_from_text: standard output");
+    if let Err(e) = streams.output.write_all(file) {
+        input::fail(b"rule_from_text: standard output", Some(e), streams.error);
     }
 }
 
 // Writes a refusal's line to standard error. It asks that this is the line to be printed of the buffer and what the read answered.
-fn print_refusal(text: &[u8], a: Filled, line: &[u8])
+fn print_refusal(streams: Streams, text: &[u8], a: Filled, line: &[u8])
     requires { PrintsRefusal a text.now line.now }
 {
-    io::write_all(STDERR_FILENO, line);
+    let _ = streams.error.write_all(line);
 }
 
 // Prints what is to be printed of the buffer and what the read answered.
-fn print(text: &[u8], a: Filled)
+fn print(streams: Streams, text: &[u8], a: Filled)
     requires { Fills a text.now }
 {
     let mut file = [0u8; FILE_ROOM];
     let w = make_file(text, a, &mut file);
     let size = told::size_of(w);
-    print_file(text, a, &file[..size]);
+    print_file(streams, text, a, &file[..size]);
     let mut line = [0u8; LINE_BYTES];
     let end = told::put_error(&mut line, w);
-    print_refusal(text, a, &line[..end]);
+    print_refusal(streams, text, a, &line[..end]);
 }
 
-fn main() {
+fn main(rt: HostRuntime) {
+    let streams = Streams {
+        input: rt.stdin(),
+        output: rt.stdout(),
+        error: rt.stderr(),
+    };
     let mut text = [0u8; TEXT_ROOM];
-    let a = read_text(&mut text);
-    print(&text, a);
+    let a = read_text(streams, &mut text);
+    print(streams, &text, a);
 }

@@ -10,8 +10,7 @@ ghost use Rattle.input.specs.Filled.{Fills};
 ghost use Rattle.told.specs.Told.{Answered};
 ghost use Rattle.text_from_rule.specs.Printed.{rule_room, text_size, text_printed, refusal_printed, PrintsText, PrintsRefusal};
 
-use input::Filled;
-use libc::{STDERR_FILENO, STDIN_FILENO, STDOUT_FILENO};
+use input::{Filled, Streams};
 use output::Written;
 use rule_text::TEXT_ROOM;
 use told::LINE_BYTES;
@@ -20,12 +19,14 @@ use told::LINE_BYTES;
 const RULE_ROOM: usize = 600;
 
 // Puts the rule file's first bytes at the start of the buffer.
-fn read_rule(rule: &mut [u8]) -> Filled
+fn read_rule(streams: Streams, rule: &mut [u8]) -> Filled
     requires { length rule.old ≡ rule_room }
     ensures { Fills result rule.new }
 {
-    let a = input::fill(STDIN_FILENO, rule);
-    input::complain(a, b"text_from_rule: standard input");
+    let mut from = streams.input;
+    let mut why = None;
+    let a = input::fill(&mut from, rule, &mut why);
+    input::complain(a, b"text_from_rule: standard input", why, streams.error);
     a
 }
 
@@ -43,36 +44,41 @@ fn make_text(rule: &[u8], a: Filled, text: &mut [u8]) -> Written
 
 // Writes a text to standard output, and says on standard error where that fails. It asks that this is the text to be printed of the
 // buffer and what the read answered.
-fn print_text(rule: &[u8], a: Filled, text: &[u8])
+fn print_text(streams: Streams, rule: &[u8], a: Filled, text: &[u8])
     requires { PrintsText a rule.now text.now }
 {
-    if !io::write_all(STDOUT_FILENO, text) {
-        os::fail(b"text_from_rule: standard output");
+    if let Err(e) = streams.output.write_all(text) {
+        input::fail(b"text_from_rule: standard output", Some(e), streams.error);
     }
 }
 
 // Writes a refusal's line to standard error. It asks that this is the line to be printed of the buffer and what the read answered.
-fn print_refusal(rule: &[u8], a: Filled, line: &[u8])
+fn print_refusal(streams: Streams, rule: &[u8], a: Filled, line: &[u8])
     requires { PrintsRefusal a rule.now line.now }
 {
-    io::write_all(STDERR_FILENO, line);
+    let _ = streams.error.write_all(line);
 }
 
 // Prints what is to be printed of the buffer and what the read answered.
-fn print(rule: &[u8], a: Filled)
+fn print(streams: Streams, rule: &[u8], a: Filled)
     requires { Fills a rule.now }
 {
     let mut text = [0u8; TEXT_ROOM];
     let w = make_text(rule, a, &mut text);
     let size = told::size_of(w);
-    print_text(rule, a, &text[..size]);
+    print_text(streams, rule, a, &text[..size]);
     let mut line = [0u8; LINE_BYTES];
     let end = told::put_error(&mut line, w);
-    print_refusal(rule, a, &line[..end]);
+    print_refusal(streams, rule, a, &line[..end]);
 }
 
-fn main() {
+fn main(rt: HostRuntime) {
+    let streams = Streams {
+        input: rt.stdin(),
+        output: rt.stdout(),
+        error: rt.stderr(),
+    };
     let mut rule = [0u8; RULE_ROOM];
-    let a = read_rule(&mut rule);
-    print(&rule, a);
+    let a = read_rule(streams, &mut rule);
+    print(streams, &rule, a);
 }

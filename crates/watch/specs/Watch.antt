@@ -1,6 +1,6 @@
 -- Watching a log: its lines are answered one by one, with the text that the check prints for them.
 use Rattle.std.specs.Prelude.{ℕ, ◌+◌, ◌≤◌, ◌≡◌, Bool, true, false, List, [], ◌++◌, length, take, ◌⊎◌}
-use Rattle.io.specs.Counts.{IsPrefixLen}
+use Rattle.input.specs.Counts.{IsPrefixLen}
 use Rattle.input.specs.declared.Filled.{Filled}
 use Rattle.input.specs.declared.Filled.TheVariants as Filled
 use Rattle.lists.specs.Lists.{has?}

@@ -15,11 +15,12 @@ ghost use Rattle.text_pieces.specs.Writing.{WritesFew};
 ghost use Rattle.report.specs.RecordText.{Printable};
 ghost use Rattle.watch.specs.Watch.{LineRead, outcome_text, way_of, Watching, AnswersLine, AnswersEnd, AnswersRule, Follows, Onward, on?};
 
-use input::Filled;
-use libc::{STDIN_FILENO, STDOUT_FILENO};
+use input::{Filled, Streams};
 use pairs::{HALF_BYTES, Layout};
 use rules::{Rule, RuleRead};
 use single::Outcome;
+use std::io;
+use std::io::Stdin;
 use tallies::Tally;
 use trace::Record;
 
@@ -64,9 +65,10 @@ enum Byte {
     Failed,
 }
 
-fn read_byte() -> Byte {
+fn read_byte(from: Stdin, why: &mut Option<io::Error>) -> Byte {
+    let mut from = from;
     let mut one = [0u8; 1];
-    let a = input::fill(STDIN_FILENO, &mut one);
+    let a = input::fill(&mut from, &mut one, why);
     match a {
         Filled::Failed => return Byte::Failed,
         Filled::Bytes(n) => {
@@ -79,13 +81,13 @@ fn read_byte() -> Byte {
 }
 
 // Puts the bytes up to the next LF at the start of the buffer, or as many as it has room for, or those before the end of the input.
-fn read_line(line: &mut [u8]) -> Filled
+fn read_line(from: Stdin, line: &mut [u8], why: &mut Option<io::Error>) -> Filled
     requires { length line.old ≤ 40 }
     ensures { LineRead result line.new }
 {
     let mut n: usize = 0;
     while n < line.len() {
-        let byte = read_byte();
+        let byte = read_byte(from, why);
         match byte {
             Byte::Failed => return Filled::Failed,
             Byte::End => return Filled::Bytes(n),
@@ -151,27 +153,27 @@ fn way_of(o: Outcome) -> Way
 }
 
 // Writes a text to standard output, or says on standard error that this fails.
-fn hand_on(text: &[u8]) -> bool {
-    if io::write_all(STDOUT_FILENO, text) {
-        return true;
+fn hand_on(streams: Streams, text: &[u8]) -> bool {
+    if let Err(e) = streams.output.write_all(text) {
+        input::fail(b"watch: standard output", Some(e), streams.error);
+        return false;
     }
-    os::fail(b"watch: standard output");
-    false
+    true
 }
 
 // Hands on the text of an outcome, and answers how to go on: as it says, or not at all if the text can't be written.
-fn print_outcome(lines: u32, o: Outcome, text: &[u8]) -> Way
+fn print_outcome(streams: Streams, lines: u32, o: Outcome, text: &[u8]) -> Way
     requires { text.now ≡ outcome_text lines o }
     ensures { Follows result o }
 {
-    if hand_on(text) {
+    if hand_on(streams, text) {
         return way_of(o);
     }
     Way::Stop
 }
 
 // Answers one line.
-fn take_line(file: &[u8], s: Watch, work: &mut [u8], line: &[u8]) -> Watch
+fn take_line(streams: Streams, file: &[u8], s: Watch, work: &mut [u8], line: &[u8]) -> Watch
     requires { Watching file.now s.state s.tally work.old }
     ensures { Watching file.now result.state result.tally work.new × Onward s.tally.lines result.tally result.way }
 {
@@ -183,7 +185,7 @@ fn take_line(file: &[u8], s: Watch, work: &mut [u8], line: &[u8]) -> Watch
     let tally = a.tally;
     let outcome = a.outcome;
     let size = a.size;
-    let way = print_outcome(tally.lines, outcome, &text[..size]);
+    let way = print_outcome(streams, tally.lines, outcome, &text[..size]);
     Watch {
         state: state,
         tally: tally,
@@ -192,13 +194,14 @@ fn take_line(file: &[u8], s: Watch, work: &mut [u8], line: &[u8]) -> Watch
 }
 
 // Reads one line and answers it. After a read that fails nothing more is printed.
-fn watch_line(file: &[u8], s: Watch, work: &mut [u8]) -> Watch
+fn watch_line(streams: Streams, file: &[u8], s: Watch, work: &mut [u8]) -> Watch
     requires { Watching file.now s.state s.tally work.old }
     ensures { Watching file.now result.state result.tally work.new × Onward s.tally.lines result.tally result.way }
 {
     let mut line = [0u8; LINE_ROOM];
-    let a = read_line(&mut line);
-    input::complain(a, b"watch: standard input");
+    let mut why = None;
+    let a = read_line(streams.input, &mut line, &mut why);
+    input::complain(a, b"watch: standard input", why, streams.error);
     let state = s.state;
     let tally = s.tally;
     match a {
@@ -217,7 +220,7 @@ fn watch_line(file: &[u8], s: Watch, work: &mut [u8]) -> Watch
                     way: Way::End,
                 };
             }
-            return take_line(file, s, work, &line[..n]);
+            return take_line(streams, file, s, work, &line[..n]);
         }
     }
 }
@@ -234,13 +237,13 @@ fn is_on(s: Watch) -> bool
 }
 
 // Reads and answers lines up to the end.
-fn watch_lines(file: &[u8], s: Watch, work: &mut [u8]) -> Watch
+fn watch_lines(streams: Streams, file: &[u8], s: Watch, work: &mut [u8]) -> Watch
     requires { Watching file.now s.state s.tally work.old }
     ensures { Watching file.now result.state result.tally work.new }
 {
     let mut last = s;
     while is_on(last) {
-        last = watch_line(file, last, work);
+        last = watch_line(streams, file, last, work);
     }
     last
 }
@@ -254,7 +257,7 @@ fn answer_end(y: Tally, text: &mut [u8]) -> usize
 }
 
 // Prints the line of the tally, unless reading or writing failed.
-fn finish(s: Watch)
+fn finish(streams: Streams, s: Watch)
     requires { Printable s.tally }
 {
     let tally = s.tally;
@@ -265,7 +268,7 @@ fn finish(s: Watch)
         Way::End => {
             let mut text = [0u8; TEXT_ROOM];
             let n = answer_end(tally, &mut text);
-            hand_on(&text[..n]);
+            hand_on(streams, &text[..n]);
             return;
         }
     }
@@ -280,10 +283,10 @@ fn answer_rule(c: u8, text: &mut [u8]) -> usize
 }
 
 // Prints the line of a refused rule.
-fn refuse(c: u8) {
+fn refuse(streams: Streams, c: u8) {
     let mut text = [0u8; TEXT_ROOM];
     let n = answer_rule(c, &mut text);
-    hand_on(&text[..n]);
+    hand_on(streams, &text[..n]);
 }
 
 // No line is read yet.
@@ -307,31 +310,37 @@ fn start(file: &[u8], rule: Rule, work: &mut [u8]) -> Watch
 }
 
 // Watches a log by a rule file.
-fn watch_log(file: &[u8]) {
+fn watch_log(streams: Streams, file: &[u8]) {
     let x = rule_file::read_rule(file);
     match x {
         RuleRead::Refused(c) => {
-            refuse(c);
+            refuse(streams, c);
             return;
         }
         RuleRead::Rule(rule) => {
             let mut work = [0u8; HALF_BYTES];
             let s = start(file, rule, &mut work);
-            let last = watch_lines(file, s, &mut work);
-            finish(last);
+            let last = watch_lines(streams, file, s, &mut work);
+            finish(streams, last);
             return;
         }
     }
 }
 
-fn main() {
+fn main(rt: HostRuntime) {
+    let streams = Streams {
+        input: rt.stdin(),
+        output: rt.stdout(),
+        error: rt.stderr(),
+    };
     let mut rule = [0u8; RULE_ROOM];
-    let a = input::read_rule(&mut rule);
-    input::complain(a, b"watch: rule.rul");
+    let mut why = None;
+    let a = input::read_rule(&rt, &mut rule, &mut why);
+    input::complain(a, b"watch: rule.rul", why, streams.error);
     match a {
         Filled::Failed => return,
         Filled::Bytes(n) => {
-            watch_log(&rule[..n]);
+            watch_log(streams, &rule[..n]);
             return;
         }
     }

@@ -1,4 +1,3 @@
-use Prim.Native.Nat.{◌-◌}
 use Rattle.instants.proofs.Column.{alike_none, alike_next, alike_all, alike_not}
 use borrow.Author.Rules.{rules}
 use Rattle.instants.proofs.same_instants.Goals as goal

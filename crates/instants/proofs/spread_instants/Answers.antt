@@ -1,4 +1,3 @@
-use Prim.Native.Nat.{◌-◌}
 use lib.ListN.{length-set}
 use Rattle.instants.proofs.Column.{copied_none, copied_out, copied_all}
 use borrow.Author.Rules.{rules}

@@ -1,5 +1,4 @@
 -- The lists agree up to the label at hand; one that differs decides.
-use Prim.Native.Nat.{◌-◌}
 use mathlib.Core.Path.{◌≡◌}
 use native.Mathlib.Omega.{arith}
 use borrow.Author.Rules.{rules}

@@ -1,5 +1,4 @@
 -- The labels are the same up to the byte at hand; a byte that differs decides.
-use Prim.Native.Nat.{◌-◌}
 use native.Mathlib.Omega.{arith}
 use borrow.Author.Rules.{rules}
 use Rattle.lists.proofs.Lists.{alike, differ, one_like}

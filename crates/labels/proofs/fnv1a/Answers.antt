@@ -1,5 +1,4 @@
 -- The hash of the bytes is the hash of those left, started at the hash so far.
-use Prim.Native.Nat.{◌-◌}
 use mathlib.Core.Path.{refl}
 use native.Mathlib.Omega.{arith}
 use borrow.Author.Rules.{rules}

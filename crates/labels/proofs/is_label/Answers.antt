@@ -1,5 +1,4 @@
 -- The loop keeps: the capitals from `i` on decide whether the string, which has 1 to 24 bytes, is a label.
-use Prim.Native.Nat.{◌-◌}
 use borrow.Author.Rules.{rules}
 use Rattle.labels.proofs.Form.{forms}
 use Rattle.labels.proofs.is_label.Goals as goal

@@ -1,5 +1,4 @@
 -- What is left of the bytes decides: those inside the length are bytes of a label, those behind it are 0.
-use Prim.Native.Nat.{◌-◌}
 use mathlib.Core.Path.{◌≡◌}
 use mathlib.Core.Bool.{true}
 use borrow.Author.Rules.{rules}

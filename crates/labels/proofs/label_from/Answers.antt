@@ -1,5 +1,4 @@
 -- The array so far is the capitals of the first bytes, filled up with zeros.
-use Prim.Native.Nat.{◌-◌}
 use mathlib.Core.Path.{refl}
 use native.Mathlib.Omega.{arith}
 use borrow.Author.Rules.{rules}

@@ -1,5 +1,4 @@
 -- What is left of the two decides: the capitals passed are the same.
-use Prim.Native.Nat.{◌-◌}
 use mathlib.Core.Path.{refl}
 use borrow.Author.Rules.{rules}
 use Rattle.labels.proofs.Compared.{bytes_next, bytes_stop, bytes_end, bytes_length}

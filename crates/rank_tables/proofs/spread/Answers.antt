@@ -1,5 +1,4 @@
 -- The loop's invariant: the rows passed are spread, the others are as they were, and `seen` has what the rows passed had.
-use Prim.Native.Nat.{◌-◌}
 use mathlib.Core.Path.{◌≡◌, refl, ◌∙◌}
 use native.Mathlib.Omega.{arith}
 use Rattle.rank_tables.proofs.Tables.{spread_none, spread_more}

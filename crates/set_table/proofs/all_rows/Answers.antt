@@ -1,5 +1,4 @@
 -- The set has what the rows passed have together.
-use Prim.Native.Nat.{◌-◌}
 use mathlib.Core.Path.{◌≡◌}
 use native.Mathlib.Omega.{arith}
 use Rattle.set_table.proofs.Turns.{together_more}

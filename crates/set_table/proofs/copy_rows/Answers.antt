@@ -1,5 +1,4 @@
 -- The rows passed are the other matrix's, and the others are as they were.
-use Prim.Native.Nat.{◌-◌}
 use native.Mathlib.Omega.{arith}
 use Rattle.set_table.proofs.Turns.{rows_none, rows_more, rows_all}
 use Rattle.set_table.proofs.copy_rows.Goals as goal

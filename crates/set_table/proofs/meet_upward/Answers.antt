@@ -1,5 +1,4 @@
 -- The rows passed keep the moments from the first of the other matrix on, and the others are as they were.
-use Prim.Native.Nat.{◌-◌}
 use native.Mathlib.Omega.{arith}
 use Rattle.set_table.proofs.Turns.{rows_none, rows_more, rows_all, upward_row}
 use Rattle.set_table.proofs.meet_upward.Goals as goal

@@ -1,5 +1,4 @@
 -- The rows passed have lost the other matrix's, and the others are as they were.
-use Prim.Native.Nat.{◌-◌}
 use native.Mathlib.Omega.{arith}
 use Rattle.set_table.proofs.Turns.{rows_none, rows_more, rows_all, minus_row}
 use Rattle.set_table.proofs.minus_rows.Goals as goal

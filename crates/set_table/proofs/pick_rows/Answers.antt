@@ -1,5 +1,4 @@
 -- The rows passed stay or are empty, and the others are as they were.
-use Prim.Native.Nat.{◌-◌}
 use native.Mathlib.Omega.{arith}
 use Rattle.set_table.proofs.Turns.{rows_none, rows_more, rows_all}
 use Rattle.set_table.proofs.pick_rows.Goals as goal

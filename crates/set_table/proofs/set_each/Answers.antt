@@ -1,5 +1,4 @@
 -- The rows passed are the set, and the others are as they were.
-use Prim.Native.Nat.{◌-◌}
 use mathlib.Core.Path.{refl}
 use native.Mathlib.Omega.{arith}
 use Rattle.set_table.proofs.Turns.{rows_none, rows_more, rows_all}

@@ -1,9 +1,6 @@
 use Rattle.sets.proofs.Sets.{mem_below_low, mem_below_high}
 use native.Mathlib.Omega.{arith}
 use mathlib.Core.Path.{◌≡◌, refl}
-use Rattle.sets.proofs.below.Reads as reads
-use Rattle.sets.proofs.below.Lts as lts
-use Rattle.sets.proofs.ones.Reads as ones-reads
 use Rattle.sets.proofs.below.Goals as goal
 
 -- src/lib.rt:62:1

@@ -1,7 +1,5 @@
 use Rattle.sets.proofs.Sets.{mem_none}
 use mathlib.Core.Path.{refl}
-use Rattle.sets.proofs.empty.Reads as reads
-use Rattle.sets.proofs.empty.Lts as lts
 use Rattle.sets.proofs.empty.Goals as goal
 
 -- src/lib.rt:31:1

@@ -1,8 +1,4 @@
 use Rattle.sets.proofs.Sets.{from_law}
-use Rattle.sets.proofs.from.Reads as reads
-use Rattle.sets.proofs.from.Lts as lts
-use Rattle.sets.proofs.below.Reads as below-reads
-use Rattle.sets.proofs.minus.Reads as minus-reads
 use Rattle.sets.proofs.from.Goals as goal
 
 -- src/lib.rt:75:1

@@ -2,8 +2,6 @@ use Rattle.sets.proofs.Sets.{mem_low, mem_high}
 use Rattle.sets.specs.Sets.{bit}
 use mathlib.Core.Path.{sym}
 use native.Mathlib.Omega.{arith}
-use Rattle.sets.proofs.has.Reads as reads
-use Rattle.sets.proofs.has.Lts as lts
 use Rattle.sets.proofs.has.Goals as goal
 
 -- src/lib.rt:43:1

@@ -1,6 +1,4 @@
 use Rattle.sets.proofs.Sets.{mem-join}
-use Rattle.sets.proofs.join.Reads as reads
-use Rattle.sets.proofs.join.Lts as lts
 use Rattle.sets.proofs.join.Goals as goal
 
 -- src/lib.rt:19:1

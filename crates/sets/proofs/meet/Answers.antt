@@ -1,6 +1,4 @@
 use Rattle.sets.proofs.Sets.{mem_meet}
-use Rattle.sets.proofs.meet.Reads as reads
-use Rattle.sets.proofs.meet.Lts as lts
 use Rattle.sets.proofs.meet.Goals as goal
 
 -- src/lib.rt:13:1

@@ -1,6 +1,4 @@
 use Rattle.sets.proofs.Sets.{mem-minus}
-use Rattle.sets.proofs.minus.Reads as reads
-use Rattle.sets.proofs.minus.Lts as lts
 use Rattle.sets.proofs.minus.Goals as goal
 
 -- src/lib.rt:25:1

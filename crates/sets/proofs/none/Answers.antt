@@ -2,8 +2,6 @@
 use borrow.Author.Tests.{eqb-true, eqb-false}
 use native.Mathlib.Omega.{arith}
 use Rattle.sets.proofs.Sets.{mem_none, some_low, some_high}
-use Rattle.sets.proofs.none.Reads as reads
-use Rattle.sets.proofs.none.Lts as lts
 use Rattle.sets.proofs.none.Goals as goal
 
 pub returns-then-s-eq0 : goal.returns-then-s-eq0

@@ -1,9 +1,7 @@
 use lib.Pow.{shl_exact, pow_pos}
 use mathlib.Core.Path.{◌≡◌}
 use native.Mathlib.Omega.{arith}
-use Prim.Native.Nat.{◌-◌, ◌*◌, ◌%◌, ◌^◌}
-use Rattle.sets.proofs.ones.Reads as reads
-use Rattle.sets.proofs.ones.Lts as lts
+use Prim.Native.Nat.{◌*◌, ◌%◌, ◌^◌}
 use Rattle.sets.proofs.ones.Goals as goal
 
 -- src/lib.rt:59:5

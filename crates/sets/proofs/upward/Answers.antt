@@ -4,11 +4,7 @@ use Rattle.sets.proofs.Sets.{least_low, least_high, up_law, none_up, mem_none}
 use lib.Count.{trailing_le}
 use mathlib.Core.Path.{◌≡◌, sym, ◌∙◌}
 use native.Mathlib.Omega.{arith}
-use Prim.Native.Nat.{ℕ, ◌-◌}
-use Rattle.sets.proofs.upward.Reads as reads
-use Rattle.sets.proofs.upward.Lts as lts
-use Rattle.sets.proofs.below.Reads as below-reads
-use Rattle.sets.proofs.from.Reads as from-reads
+use Prim.Native.Nat.{ℕ}
 use Rattle.sets.proofs.upward.Goals as goal
 
 -- src/lib.rt:87:26

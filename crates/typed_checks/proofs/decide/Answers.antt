@@ -1,4 +1,5 @@
 -- One case for each way out.
+use borrow.Author.Rules.{rules}
 use native.Mathlib.Omega.{arith}
 use mathlib.Core.Path.{sym}
 use lib.Seq.{length-take-le}
@@ -24,4 +25,4 @@ pub returns-then-not-few_nested : goal.returns-then-not-few_nested
 returns-then-not-few_nested c = search decisions
 
 pub returns : goal.returns
-returns c = decide_taken _ _ _ _ c.if-n-gt-MAX_NODES.false _ _ c.label_places-m.ensures c.if-m-gt-MAX_LABELS.false _ c.labels_ok.ensures c.if-not-labels_ok.false-raw _ c.all_bound.ensures c.if-not-all_bound.false-raw _ c.few_nested.ensures c.if-not-few_nested.false-raw c.requires.1
+returns c = decide_taken _ _ _ _ c.if-n-gt-MAX_NODES.false _ _ c.label_places-m.ensures c.if-m-gt-MAX_LABELS.false _ c.labels_ok.ensures (search rules) _ c.all_bound.ensures (search rules) _ c.few_nested.ensures (search rules) c.requires.1

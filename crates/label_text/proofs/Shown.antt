@@ -11,7 +11,6 @@ use Rattle.input.specs.declared.Filled.{Filled}
 use Rattle.input.specs.declared.Filled.TheVariants.{Bytes, Failed}
 use Rattle.input.proofs.Answers.{counted}
 use Rattle.output.specs.declared.Written.{Written}
-use Rattle.output.specs.declared.Written.TheVariants as Written
 use Rattle.label_book.specs.Piece.{piece_for, TellsPiece, StandsIn, Hands}
 use Rattle.label_book.specs.declared.Piece.{Piece}
 use Rattle.label_book.specs.declared.Piece.TheVariants.{InBook, InLog, Refused}

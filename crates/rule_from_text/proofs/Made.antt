@@ -11,7 +11,6 @@ use Rattle.rules.specs.Limits.{max_file_bytes}
 use Rattle.atoms.specs.Tree.{Tree, size}
 use Rattle.typed.specs.Grammar.{read_text}
 use Rattle.typed_checks.specs.declared.Decision.{Decision}
-use Rattle.typed_checks.specs.declared.Decision.TheVariants as Decision
 use Rattle.typed_checks.specs.Said.{judged}
 use Rattle.typed_formula.specs.Meaning.{formula_for}
 use Rattle.typed_file.specs.Answer.{or_refused, answer_of, bytes_of, typed_answer, ReadsText}

@@ -3,14 +3,10 @@ use Prim.Native.Nat.{ℕ}
 use mathlib.Core.Path.{◌≡◌, sym}
 use lib.ListN.{length, replicate, length-replicate}
 use Rattle.label_text.specs.Printed.{book_room}
-use Rattle.label_text.proofs.book_buffer.Statement.{statement}
-use Rattle.label_text.proofs.book_buffer.Tie as tie
+use Rattle.label_text.proofs.book_buffer.Goals as goal
 
 zeros-long : (n : ℕ) → n ≡ length {A = ℕ} (replicate n 0)
 zeros-long n = sym (length-replicate n 0)
 
-returns : tie.Need-returns
+pub returns : goal.returns
 returns c = zeros-long book_room
-
-pub book-buffer-spec : {M : Type 1} → statement M
-book-buffer-spec = tie.close (tie.spec returns)

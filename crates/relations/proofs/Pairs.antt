@@ -2,7 +2,7 @@
 -- before, overlaps or includes the other; the byte is told apart by the same comparisons. A pair that is not finished, or read
 -- backwards, has a smaller byte. "the relation noted for each pair of runs is the one that their line positions give"
 use Prim.Native.Nat.{ℕ, ◌<◌, ◌≤◌}
-use mathlib.Core.Path.{◌≡◌, refl, sym, ap, ◌∙◌}
+use mathlib.Core.Path.{◌≡◌, sym, ap, ◌∙◌}
 use mathlib.Core.Logic.{◌≢◌}
 use mathlib.Core.List.{List}
 use native.Mathlib.Omega.{arith}

@@ -1,6 +1,5 @@
 -- The loop's invariant: the buffer is k zeros, and then what was there from place k on. After as many turns as the layout has
 -- bytes the zeros are the pair bytes of no runs.
-use Prim.Native.Nat.{◌-◌}
 use mathlib.Core.Path.{refl}
 use borrow.Author.Rules.{rules}
 use lib.ListN.{length-set}

@@ -1,5 +1,4 @@
 -- The loop's invariant: the flag tells whether the first i bytes are the same.
-use Prim.Native.Nat.{◌-◌}
 use mathlib.Core.Path.{◌≡◌}
 use native.Mathlib.Omega.{arith}
 use borrow.Author.Rules.{rules}

@@ -1,6 +1,5 @@
 -- The outer loop's invariant: the bytes of the runs from the first to before run z are stored. The inner loop's: so are those of run z
 -- with the runs before run k. No other byte is changed.
-use Prim.Native.Nat.{◌-◌}
 use mathlib.Core.Path.{refl}
 use lib.ListN.{length-set}
 use borrow.Author.Rules.{rules}

@@ -1,5 +1,4 @@
 -- The loop's invariant: the first i labels of the array are those of the form.
-use Prim.Native.Nat.{◌-◌}
 use mathlib.Core.Path.{refl}
 use native.Mathlib.Omega.{arith}
 use borrow.Author.Rules.{rules}

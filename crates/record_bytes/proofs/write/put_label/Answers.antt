@@ -1,5 +1,4 @@
 -- The loop's invariant: the buffer is what it was when the length was stored, with the first j bytes of the label stored behind it.
-use Prim.Native.Nat.{◌-◌}
 use mathlib.Core.Path.{◌≡◌, refl, ◌∙◌}
 use native.Mathlib.Omega.{arith}
 use borrow.Author.Rules.{rules}

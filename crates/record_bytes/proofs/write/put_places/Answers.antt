@@ -1,5 +1,4 @@
 -- The loop's invariant: the buffer is what it was, with the first i places stored from the first place on.
-use Prim.Native.Nat.{◌-◌}
 use mathlib.Core.Path.{◌≡◌, refl}
 use native.Mathlib.Omega.{arith}
 use borrow.Author.Rules.{rules}

@@ -1,5 +1,4 @@
 -- The loop's invariant: the buffer is what it was, with the bytes of the first i runs stored from the first run's place on.
-use Prim.Native.Nat.{◌-◌}
 use mathlib.Core.Path.{◌≡◌, refl, ◌∙◌}
 use native.Mathlib.Omega.{arith}
 use borrow.Author.Rules.{rules}

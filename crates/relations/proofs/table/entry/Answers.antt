@@ -1,7 +1,6 @@
 -- The table's rule is one test over all of its entries, which antt computes. Local 2 of the function is the table.
 use mathlib.Core.Path.{refl}
 use borrow.Author.Rules.{rules}
-use borrow.Table.Row.{get}
 use Rattle.relations.specs.Compose.{compose_of}
 use Rattle.relations.proofs.Computed.{entry_right}
 use Rattle.relations.proofs.table.entry.Reads as reads

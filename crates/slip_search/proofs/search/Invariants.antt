@@ -1,0 +1,15 @@
+use Prim.Native.Nat.{◌-◌}
+use Rattle.slip_search.proofs.Levels.{Level}
+use Rattle.slip_search.proofs.search.Reads as reads
+use Rattle.slip_search.proofs.search.Lts as lts
+use Rattle.rules.proofs.table.node_at.Reads as node-at-reads
+use Rattle.slip_search.proofs.first_run.Reads as first-run-reads
+use Rattle.slip_search.proofs.holds_at.Reads as holds-at-reads
+use Rattle.row_table.proofs.ranks.rebound.Reads as rebound-reads
+use Rattle.slip_search.proofs.search.Given as goal
+
+abbrev pub invariant-loop-x : goal.invariant-loop-x
+invariant-loop-x l = Level l.file l.first l.heights l.frees l.table l.runs l.top l.ranks l.moment l.slip l.b l.node l.x
+
+abbrev pub decreases-loop-x : goal.decreases-loop-x
+decreases-loop-x l = l.node

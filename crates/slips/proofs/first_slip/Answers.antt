@@ -1,0 +1,32 @@
+-- Each refusal in its place; then what the search finds.
+use mathlib.Core.Path.{◌≡◌}
+use borrow.Author.Tests.{not-true, not-false}
+use Rattle.slips.specs.declared.Found.TheVariants as Found
+use Rattle.slips.specs.Answers.{without_slip, FindsIn}
+use Rattle.slips.proofs.Calls.{rule_refused, form_refused, record_refused, answered}
+use Rattle.slips.proofs.first_slip.Reads as reads
+use Rattle.slips.proofs.first_slip.Lts as lts
+use Rattle.replay.proofs.is_record.Reads as is-record-reads
+use Rattle.rule_file.proofs.read_rule.Reads as read-rule-reads
+use Rattle.slip_form.proofs.chain_top.Reads as chain-top-reads
+use Rattle.slips.proofs.first_of.Reads as first-of-reads
+use Rattle.slips.proofs.without_slip.Reads as without-slip-reads
+use Rattle.slips.proofs.first_slip.Goals as goal
+
+pub returns-in-Refused : goal.returns-in-Refused
+returns-in-Refused c = rule_refused c.args.file.now c.args.r (λ n. _ ≡ without_slip (Found.Refused n)) (λ t f z. FindsIn t f z _) _ c.read_rule-read.ensures _ c.in-Refused.is c.without_slip.ensures
+
+pub chain_top-t-requires : goal.chain_top-t-requires
+chain_top-t-requires c = c.read_rule-read.ensures.taken _ c.in-Rule.is
+
+pub returns-in-Other : goal.returns-in-Other
+returns-in-Other c = form_refused c.args.file.now c.args.r (λ n. _ ≡ without_slip (Found.Refused n)) (λ t f z. FindsIn t f z _) _ c.read_rule-read.ensures _ c.in-Rule.is _ c.chain_top-t.ensures c.in-Other.is c.without_slip-in-Other.ensures
+
+pub returns-then-not-is_record : goal.returns-then-not-is_record
+returns-then-not-is_record c = record_refused c.args.file.now c.args.r (λ n. _ ≡ without_slip (Found.Refused n)) (λ t f z. FindsIn t f z _) _ c.read_rule-read.ensures _ c.in-Rule.is _ (c.chain_top-t.ensures.at _ c.in-At.is) _ c.is_record.ensures (not-true _ c.if-not-is_record.true-raw) c.without_slip-then-not-is_record.ensures
+
+pub first_of-requires : goal.first_of-requires
+first_of-requires c = record { taken = (c.read_rule-read.ensures.taken _ c.in-Rule.is, c.is_record.ensures.yes (not-false _ c.if-not-is_record.false-raw)); chain_at = c.chain_top-t.ensures.at _ c.in-At.is }
+
+pub returns-in-At : goal.returns-in-At
+returns-in-At c = answered c.args.file.now c.args.r (λ n. _ ≡ without_slip (Found.Refused n)) (λ t f z. FindsIn t f z _) _ c.read_rule-read.ensures _ c.in-Rule.is _ (c.chain_top-t.ensures.at _ c.in-At.is) _ c.is_record.ensures (not-false _ c.if-not-is_record.false-raw) c.first_of.ensures

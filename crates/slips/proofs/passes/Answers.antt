@@ -1,0 +1,32 @@
+-- Each refusal in its place; then what is read.
+use mathlib.Core.Path.{◌≡◌, refl}
+use borrow.Author.Tests.{not-true, not-false}
+use Rattle.slip_form.specs.Slips.{slip_runs}
+use Rattle.slips.specs.declared.Passing.TheVariants as Passing
+use Rattle.slips.specs.Answers.{ReadsIn}
+use Rattle.slips.proofs.Calls.{rule_refused, form_refused, record_refused, answered}
+use Rattle.slips.proofs.passes.Reads as reads
+use Rattle.slips.proofs.passes.Lts as lts
+use Rattle.replay.proofs.is_record.Reads as is-record-reads
+use Rattle.rule_file.proofs.read_rule.Reads as read-rule-reads
+use Rattle.slip_form.proofs.chain_top.Reads as chain-top-reads
+use Rattle.slips.proofs.read_slip.Reads as read-slip-reads
+use Rattle.slips.proofs.passes.Goals as goal
+
+pub returns-in-Refused : goal.returns-in-Refused
+returns-in-Refused c = rule_refused c.args.file.now c.args.r (λ n. _ ≡ Passing.Refused n) (λ t f z. ReadsIn t f z (slip_runs c.args.slip) _) _ c.read_rule-read.ensures _ c.in-Refused.is refl
+
+pub chain_top-t-requires : goal.chain_top-t-requires
+chain_top-t-requires c = c.read_rule-read.ensures.taken _ c.in-Rule.is
+
+pub returns-in-Other : goal.returns-in-Other
+returns-in-Other c = form_refused c.args.file.now c.args.r (λ n. _ ≡ Passing.Refused n) (λ t f z. ReadsIn t f z (slip_runs c.args.slip) _) _ c.read_rule-read.ensures _ c.in-Rule.is _ c.chain_top-t.ensures c.in-Other.is refl
+
+pub returns-then-not-is_record : goal.returns-then-not-is_record
+returns-then-not-is_record c = record_refused c.args.file.now c.args.r (λ n. _ ≡ Passing.Refused n) (λ t f z. ReadsIn t f z (slip_runs c.args.slip) _) _ c.read_rule-read.ensures _ c.in-Rule.is _ (c.chain_top-t.ensures.at _ c.in-At.is) _ c.is_record.ensures (not-true _ c.if-not-is_record.true-raw) refl
+
+pub read_slip-requires : goal.read_slip-requires
+read_slip-requires c = record { taken = (c.read_rule-read.ensures.taken _ c.in-Rule.is, c.is_record.ensures.yes (not-false _ c.if-not-is_record.false-raw)); chain_at = c.chain_top-t.ensures.at _ c.in-At.is }
+
+pub returns-in-At : goal.returns-in-At
+returns-in-At c = answered c.args.file.now c.args.r (λ n. _ ≡ Passing.Refused n) (λ t f z. ReadsIn t f z (slip_runs c.args.slip) _) _ c.read_rule-read.ensures _ c.in-Rule.is _ (c.chain_top-t.ensures.at _ c.in-At.is) _ c.is_record.ensures (not-false _ c.if-not-is_record.false-raw) c.read_slip.ensures

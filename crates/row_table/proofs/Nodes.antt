@@ -15,7 +15,7 @@ use Rattle.rules.specs.declared.Node.{Node}
 use Rattle.rules.proofs.Formulas.{formula-and, formula_not, formula_some, formula-has, formula_pair}
 use Rattle.logic.specs.Satisfies.{Binding}
 use Rattle.logic.specs.Model.{Model, eval}
-use Rattle.row_table.specs.Truth.{truth, at, TrueAt, at_moment}
+use Rattle.row_table.specs.Truth.{truth, at, TrueAt}
 use Rattle.row_table.specs.Rows.{pair_of, atom_of}
 use Rattle.set_table.specs.Rows.{Narrowed}
 

@@ -9,7 +9,6 @@ use Rattle.std.specs.Prelude.{ℕ, ◌+◌, ◌*◌, ◌-◌, ◌<◌, ◌≡◌
 use Rattle.lists.specs.Limits.{max_runs}
 use Rattle.sets.specs.Sets.{mem}
 use Rattle.set_table.specs.Rows.{row}
-use Rattle.relations.specs.Relation as Relation
 use Rattle.rules.specs.declared.Node.{Node}
 use Rattle.rules.specs.Parts.{label_count}
 use Rattle.rules.specs.Labels.{label_bytes}

@@ -20,7 +20,6 @@ use Rattle.trace.specs.Record.{record_of}
 use Rattle.trace.specs.Orderly.{Orderly}
 use Rattle.trace.proofs.Accepted.{accepted_orderly}
 use Rattle.trace.proofs.Bounds.{accepted-bounded}
-use Rattle.relations.specs.Relation as Relation
 use Rattle.rules.specs.Formula.{same, has, pair}
 use Rattle.rules.specs.Parts.{label_count}
 use Rattle.rules.specs.Labels.{label_bytes}

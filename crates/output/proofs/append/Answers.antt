@@ -1,8 +1,5 @@
 -- The first bytes stand in the buffer; the measure is how many are left.
 use Rattle.output.proofs.Output.{copied_first, copied_next, copied_all}
-use Prim.Native.Nat.{◌-◌}
-use Rattle.output.proofs.append.Reads as reads
-use Rattle.output.proofs.append.Lts as lts
 use Rattle.output.proofs.append.Goals as goal
 
 pub loop-i-init : goal.loop-i-init

@@ -2,8 +2,6 @@
 use Rattle.output.proofs.Output.{Copied}
 use lib.ListN.{length}
 use Prim.Native.Nat.{◌-◌}
-use Rattle.output.proofs.append.Reads as reads
-use Rattle.output.proofs.append.Lts as lts
 use Rattle.output.proofs.append.Given as goal
 
 abbrev pub invariant-loop-i : goal.invariant-loop-i

@@ -1,6 +1,4 @@
 use Rattle.text_pieces.proofs.Pieces.{unread_refused}
-use Rattle.text_pieces.proofs.is_unread.Reads as reads
-use Rattle.text_pieces.proofs.is_unread.Lts as lts
 use Rattle.text_pieces.proofs.is_unread.Goals as goal
 
 pub returns-in-Refused : goal.returns-in-Refused

@@ -1,6 +1,4 @@
 use Rattle.text_pieces.proofs.Pieces.{letter_holds, letter_fails}
-use Rattle.text_pieces.proofs.letter_of.Reads as reads
-use Rattle.text_pieces.proofs.letter_of.Lts as lts
 use Rattle.text_pieces.proofs.letter_of.Goals as goal
 
 pub returns-then-verdict-eq1 : goal.returns-then-verdict-eq1

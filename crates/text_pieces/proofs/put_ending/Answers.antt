@@ -1,8 +1,5 @@
 use Rattle.text_pieces.proofs.Pieces.{line_low, ending_read, ending_refused}
 use borrow.Author.Rules.{rules}
-use Rattle.text_pieces.proofs.put_ending.Reads as reads
-use Rattle.text_pieces.proofs.put_ending.Lts as lts
-use Rattle.text_pieces.proofs.put_refused.Reads as put-refused-reads
 use Rattle.text_pieces.proofs.put_ending.Goals as goal
 
 pub returns-in-Read : goal.returns-in-Read

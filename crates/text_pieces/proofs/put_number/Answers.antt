@@ -1,8 +1,4 @@
 use Rattle.text_pieces.proofs.Pieces.{number_one, number_two, number-three}
-use Rattle.text_pieces.proofs.put_number.Reads as reads
-use Rattle.text_pieces.proofs.put_number.Lts as lts
-use Rattle.text_pieces.proofs.last_digit.Reads as last-digit-reads
-use Rattle.text_pieces.proofs.put_byte.Reads as put-byte-reads
 use Rattle.text_pieces.proofs.put_number.Goals as goal
 
 pub returns-then-n-lt10 : goal.returns-then-n-lt10

@@ -1,5 +1,4 @@
 -- The loop's invariant: the rows passed hold their values, and the others are as they were.
-use Prim.Native.Nat.{◌-◌}
 use mathlib.Core.Path.{◌≡◌, refl, ◌∙◌}
 use native.Mathlib.Omega.{arith}
 use Rattle.rows.proofs.Given.{filled_none, filled_more}

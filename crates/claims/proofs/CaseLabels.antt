@@ -264,9 +264,9 @@ module _ (ls : List (List ℕ)) (xs : List Node) (labels : RightLabels ls) (node
 
   stands_labels : (n : ℕ) (f : Formula) → Stands ls xs n f → EachLabel IsLabel f
   unfolding Stands
-  stands_labels n (both f g) (e, s, t) = (stands_labels _ f s, stands_labels _ g t)
-  stands_labels n (neg f) (e, s) = stands_labels _ f s
-  stands_labels n (exists v f) (e, a, s) = stands_labels _ f s
+  stands_labels n (both f g) (e, s, t) = (stands_labels (node_of xs n).a f s, stands_labels (node_of xs n).b g t)
+  stands_labels n (neg f) (e, s) = stands_labels (node_of xs n).a f s
+  stands_labels n (exists v f) (e, a, s) = stands_labels (node_of xs n).b f s
   stands_labels n (has v l) (e, a, b) =
       let h = kind-within xs n (λ z. omega arith) in
       subst IsLabel b (labels.each (node_of xs n).b (named_low n (nodes n h) e))

@@ -52,7 +52,7 @@ module _ (book log : Bor (List ℕ)) (p n : ℕ) (t : Bor (List ℕ)) (h : Hands
       let s : SliceOf log start end t = stands_as (InLog start end) ((w.meaning.in_log start end).1 u) in
       record {
         block = s.block;
-        offset = s.offset ∙ ap (λ (k : ℕ). k + log.ptr.1) u.starts;
+        offset = s.offset ∙ ap (λ (k : ℕ). k + log.ref_ptr.1) u.starts;
         read = s.bytes ∙ own_bytes book.now log.now p n start end u;
       }
 

@@ -32,10 +32,10 @@ use Rattle.slips.specs.Answers.{with_slip, without_slip, first_runs, found_in, F
 use Rattle.slip_bytes.specs.InBytes.{slip_from, runs_in, found_number, found_numbered}
 
 -- ── what is found ──
-length_first : (m : Model) (ρ : Binding) (vs : List ℕ) (g : Formula) → length (first_runs m ρ vs g) ≡ length vs
+length_first : (m : Model) (vs : List ℕ) (ρ : Binding) (g : Formula) → length (first_runs m ρ vs g) ≡ length vs
 unfolding first_runs
-length_first m ρ [] g = refl
-length_first m ρ (v ∷ vs) g = ap suc (length_first m _ vs g)
+length_first m [] ρ g = refl
+length_first m (v ∷ vs) ρ g = ap suc (length_first m vs _ g)
 
 found_either : {C : Type 0} (t : Trace) (vs : List ℕ) (g : Formula) → 1 ≤ length vs → length vs ≤ 4
     → ((x : Slip) → found_in t vs g ≡ with_slip x → 1 ≤ x.count → x.count ≤ 4 → C) → (found_in t vs g ≡ without_slip Found.Nothing → C) → C
@@ -43,7 +43,7 @@ unfolding found_in
 found_either t vs g one four slip none =
     either_bool (eval (model_of t) unbound (some_of vs g))
     (λ e.
-    let n : length (first_runs (model_of t) unbound vs g) ≡ length vs = length_first (model_of t) unbound vs g in
+    let n : length (first_runs (model_of t) unbound vs g) ≡ length vs = length_first (model_of t) vs unbound g in
     slip (slip_of (first_runs (model_of t) unbound vs g)) (simp e) (omega arith) (omega arith))
     (λ e. none (simp e))
 

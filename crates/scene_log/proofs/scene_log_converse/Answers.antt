@@ -1,0 +1,6 @@
+-- The converse of the number as a byte: one above 63 is no set, and neither is its byte.
+use Rattle.scene_log.proofs.Numbered.{converses}
+use Rattle.scene_log.proofs.scene_log_converse.Goals as goal
+
+pub returns : goal.returns
+returns c = search converses

@@ -9,7 +9,6 @@ use lib.Seq.{take_all}
 use Rattle.lists.proofs.Cases.{either_lt}
 use Rattle.rules.specs.Rules.{rule_of}
 use Rattle.rules.specs.declared.RuleRead.{RuleRead}
-use Rattle.rules.specs.declared.RuleRead.TheVariants as RuleRead
 use Rattle.rules.proofs.Rules.{rule_taken}
 use Rattle.rules.proofs.Cut.{first_bytes_decide_rule}
 use Rattle.rule_text.specs.Text.{answer_of, bytes_of, text_answer}

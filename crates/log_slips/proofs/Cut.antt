@@ -12,7 +12,6 @@ use Rattle.lines.specs.Event.{faulty}
 use Rattle.lines.specs.Line.{event_of}
 use Rattle.lines.specs.Log.{lines_of, next_line}
 use Rattle.lines.specs.declared.Next.{Next}
-use Rattle.lines.specs.declared.Next.TheVariants as Next
 use Rattle.lines.proofs.Log.{Handed, line_is_handed_out, done_means_no_lines, Spoilt, refused_line_is_faulty}
 use Rattle.trace.specs.Trace.{Trace, no_trace, Accepted}
 use Rattle.trace.proofs.Grown.{taken_grows, no_bytes}

@@ -13,7 +13,6 @@ use Rattle.trace.specs.Record.{record_of, Valid}
 use Rattle.trace.proofs.Bounds.{accepted-bounded}
 use Rattle.rules.specs.declared.Rule.{Rule}
 use Rattle.rules.specs.declared.RuleRead.{RuleRead}
-use Rattle.rules.specs.declared.RuleRead.TheVariants as RuleRead
 use Rattle.rules.specs.Formula.{Formula, neg}
 use Rattle.rules.specs.Rules.{rule_of, formula_of}
 use Rattle.logic.specs.Satisfies.{Binding, bind}
@@ -22,7 +21,6 @@ use Rattle.logic.specs.Verdict.{verdict_of}
 use Rattle.slip_form.specs.Form.{some_of, SlipForm}
 use Rattle.slip_form.specs.Slips.{unbound, run_no, numbers, slip_runs, slip_of}
 use Rattle.slips.specs.declared.Found.{Found}
-use Rattle.slips.specs.declared.Found.TheVariants as Found
 use Rattle.slips.specs.declared.Finding.{Finding}
 use Rattle.slips.specs.Answers.{without_slip, first_runs, found_in, FindsFirst}
 use Rattle.log_slips.specs.Printed.{slip_text, if_fails, fail_text}

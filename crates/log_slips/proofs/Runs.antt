@@ -12,7 +12,6 @@ use Rattle.text_pieces.proofs.Writing.{wrote_nothing, then, writes_same}
 use Rattle.slip_form.specs.declared.Slip.{Slip}
 use Rattle.slip_form.specs.Slips.{run_no, numbers, slip_runs}
 use Rattle.slips.specs.declared.Found.{Found}
-use Rattle.slips.specs.declared.Found.TheVariants as Found
 use Rattle.slips.specs.declared.Finding.{Finding}
 use Rattle.log_slips.specs.Printed.{runs_text, slip_text}
 use Rattle.log_slips.specs.Walk.{if_first, found_text}

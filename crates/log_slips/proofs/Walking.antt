@@ -10,7 +10,6 @@ use lib.Seq.{length-take-le, take_at, take-add}
 use Rattle.lists.proofs.Cases.{no_both}
 use Rattle.lines.specs.declared.Advanced.{Advanced}
 use Rattle.lines.specs.declared.Next.{Next}
-use Rattle.lines.specs.declared.Next.TheVariants as Next
 use Rattle.lines.specs.Log.{lines_of, next_line, place_after, advanced_from}
 use Rattle.lines.proofs.Log.{Handed, line_is_handed_out, done_means_no_lines, Spoilt, refused_line_is_faulty}
 use Rattle.trace.specs.declared.Record.{Record}

@@ -1,6 +1,6 @@
 -- The whole text: no line is read at first, and at the end all are. A rule that is refused, or has another form, is refused for the
 -- record of no lines as for any other, and no other rule is.
-use Prim.Native.Nat.{ℕ, zero, suc, ◌+◌, ◌-◌, ◌<◌, ◌≤◌}
+use Prim.Native.Nat.{ℕ, zero, suc, ◌-◌, ◌<◌, ◌≤◌}
 use mathlib.Core.Path.{◌≡◌, refl, ap, sym, ◌∙◌}
 use mathlib.Core.Bool.{Bool, true, false}
 use mathlib.Core.List.{List, [], ◌++◌, append-nil}
@@ -23,7 +23,6 @@ use Rattle.text_pieces.specs.Writing.{WritesFew}
 use Rattle.slip_form.specs.Form.{some_of}
 use Rattle.slip_form.specs.Slips.{unbound}
 use Rattle.slips.specs.declared.Found.{Found}
-use Rattle.slips.specs.declared.Found.TheVariants as Found
 use Rattle.slips.specs.declared.Finding.{Finding}
 use Rattle.slips.specs.Answers.{found_in, FindsFirst}
 use Rattle.log_slips.specs.declared.Walk.{Walk}

@@ -12,7 +12,6 @@ use Rattle.text_pieces.specs.Writing.{WritesFew}
 use Rattle.slip_form.specs.Form.{SlipForm}
 use Rattle.slip_form.specs.Slips.{slip_runs}
 use Rattle.slips.specs.declared.Found.{Found}
-use Rattle.slips.specs.declared.Found.TheVariants as Found
 use Rattle.slips.specs.declared.Finding.{Finding}
 use Rattle.slips.specs.Answers.{FindsFirst}
 use Rattle.log_slips.specs.declared.Walk.{Walk}

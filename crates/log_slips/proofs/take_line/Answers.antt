@@ -1,0 +1,22 @@
+-- The step says what the line leaves, and the finder what breaks the rule then.
+use Rattle.trace.proofs.Bounds.{valid_fits}
+use Rattle.reading.proofs.Hearing.{line_short, line_event}
+use Rattle.log_slips.proofs.Found.{valid_lines}
+use Rattle.log_slips.proofs.Line.{lines_then, few-then, takes-taken, takes_refused}
+use borrow.Author.Rules.{rules}
+use Rattle.log_slips.proofs.take_line.Goals as goal
+
+pub take_event-a-requires : goal.take_event-a-requires
+take_event-a-requires c = (search (valid_fits, rules), search line_short, search line_event)
+
+pub refuse-requires : goal.refuse-requires
+refuse-requires c = (search rules, search (valid_lines, rules))
+
+pub returns-in-Refused : goal.returns-in-Refused
+returns-in-Refused c = search (takes_refused, rules)
+
+pub put_found-size-requires : goal.put_found-size-requires
+put_found-size-requires c = (search rules, search (lines_then, rules), search (few-then, rules))
+
+pub returns-in-Taken : goal.returns-in-Taken
+returns-in-Taken c = search (takes-taken, rules)

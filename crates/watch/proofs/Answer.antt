@@ -3,7 +3,7 @@
 use Prim.Native.Nat.{ℕ, ◌+◌, ◌-◌, ◌≤◌}
 use mathlib.Core.Path.{◌≡◌, refl, sym, subst, ap, ◌∙◌}
 use mathlib.Core.Bool.{true, false}
-use mathlib.Core.List.{List, [], ◌∷◌, ◌++◌}
+use mathlib.Core.List.{List, ◌∷◌, ◌++◌}
 use mathlib.Core.Logic.{⊎_elim}
 use mathlib.Core.Option.{some}
 use native.Mathlib.Omega.{arith}
@@ -28,7 +28,6 @@ use Rattle.rules.specs.declared.Rule.{Rule}
 use Rattle.rules.specs.declared.RuleRead.TheVariants as RuleRead
 use Rattle.rules.specs.Rules.{rule_of, formula_of}
 use Rattle.logic.specs.declared.Verdict.{Verdict}
-use Rattle.logic.specs.declared.Verdict.TheVariants as Verdict
 use Rattle.logic.specs.Verdict.{verdict_of}
 use Rattle.reading.specs.Left.{Left}
 use Rattle.pairs.proofs.Work.{work_over, work_long}
@@ -43,8 +42,6 @@ use Rattle.text_pieces.specs.Pieces.{refused_text}
 use Rattle.report.specs.Text.{line_text, tally_text, text_from}
 use Rattle.text_pieces.specs.Writing.{WritesFew}
 use Rattle.report.proofs.Printed.{text_taken, text_refused}
-use Rattle.watch.specs.declared.Answered.{Answered}
-use Rattle.watch.specs.declared.Way.{Way}
 use Rattle.watch.specs.declared.Way.TheVariants.{On, End}
 use Rattle.watch.specs.Watch.{outcome_text, way_of, FirstBytes, Watching, GoesOn, Ends, AnswersLine}
 use Rattle.watch.proofs.Texts.{stands, stands-within}

@@ -1,14 +1,14 @@
 -- From the first line to the last: the start, the way after each line, and the end.
-use Prim.Native.Nat.{ℕ, ◌+◌, ◌-◌, ◌<◌, ◌≤◌}
+use Prim.Native.Nat.{ℕ, ◌-◌, ◌<◌, ◌≤◌}
 use mathlib.Core.Path.{◌≡◌, refl, sym, subst, ap, ◌∙◌}
-use mathlib.Core.Bool.{Bool, true, false, true≢false}
+use mathlib.Core.Bool.{Bool, true, true≢false}
 use mathlib.Core.List.{List, []}
 use native.Mathlib.Omega.{arith}
 use lib.ListN.{length, take}
 use lib.Seq.{length-take-le}
 use borrow.Author.Tests.{le-ltb}
 use Rattle.trace.specs.declared.Record.{Record}
-use Rattle.trace.specs.Trace.{Trace, no_trace}
+use Rattle.trace.specs.Trace.{no_trace}
 use Rattle.trace.specs.Record.{record_of}
 use Rattle.trace.proofs.Grown.{no_bytes}
 use Rattle.trace.proofs.Bounds.{accepted-bounded}
@@ -20,14 +20,12 @@ use Rattle.pairs.specs.Pairs.{work_of}
 use Rattle.pairs.specs.Start.{start_of}
 use Rattle.rules.specs.declared.Rule.{Rule}
 use Rattle.rules.specs.declared.RuleRead.{RuleRead}
-use Rattle.rules.specs.declared.RuleRead.TheVariants as RuleRead
 use Rattle.rules.specs.Rules.{rule_of, ReadsRule}
 use Rattle.pairs.proofs.Work.{work_over, work_long}
 use Rattle.single.specs.declared.Outcome.{Outcome}
 use Rattle.single.specs.declared.Outcome.TheVariants.{Holds, Fails, Refused}
 use Rattle.single.proofs.LineCall.{with_refused}
 use Rattle.tallies.specs.declared.Tally.{Tally}
-use Rattle.trace.specs.Orderly.{finished_runs}
 use Rattle.tallies.specs.Tally.{tally_of, tally_after, counts?}
 use Rattle.trace.proofs.Finished.{finished_few}
 use Rattle.tallies.proofs.Tallies.{failing-most}
@@ -38,7 +36,6 @@ use Rattle.text_pieces.specs.Writing.{WritesFew}
 use Rattle.report.specs.RecordText.{Printable}
 use Rattle.report.proofs.Printed.{text_none}
 use Rattle.watch.specs.declared.Answered.{Answered}
-use Rattle.watch.specs.declared.Watch.{Watch}
 use Rattle.watch.specs.declared.Way.{Way}
 use Rattle.watch.specs.declared.Way.TheVariants.{On, End, Stop}
 use Rattle.watch.specs.Watch.{way_of, Watching, AnswersLine, AnswersEnd, AnswersRule, Follows, Onward, on?}

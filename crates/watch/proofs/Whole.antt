@@ -2,7 +2,7 @@
 -- prints its piece and leaves the report of the bytes after it, and a refused line its piece and the tally (`AnswersLine`); at the end of
 -- the input the tally is left (`AnswersEnd`). What a refused line asks of the bytes read for it holds of those that `read_line` reads:
 use Prim.Native.Nat.{ℕ, zero, suc, ◌<◌, ◌≤◌}
-use mathlib.Core.Path.{◌≡◌, refl, sym, ap, ◌∙◌}
+use mathlib.Core.Path.{◌≡◌, refl, ap, ◌∙◌}
 use mathlib.Core.Bool.{true, false}
 use mathlib.Core.Logic.{◌⊎◌, inl, inr, ⊎_elim}
 use mathlib.Core.List.{List, [], ◌∷◌, ◌++◌}

@@ -2,7 +2,6 @@
 use Rattle.std.specs.Prelude.{ℕ, ◌+◌, ◌≤◌, ◌≡◌, Bool, true, false, List, [], ◌++◌, length, take, ◌⊎◌}
 use Rattle.input.specs.Counts.{IsPrefixLen}
 use Rattle.input.specs.declared.Filled.{Filled}
-use Rattle.input.specs.declared.Filled.TheVariants as Filled
 use Rattle.lists.specs.Lists.{has?}
 use Rattle.lines.specs.declared.Next.TheVariants as Next
 use Rattle.lines.specs.Log.{lines_of, next_line}

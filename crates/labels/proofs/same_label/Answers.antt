@@ -16,7 +16,7 @@ returns-then-x-y c = search bytes_stop
 pub loop-i-preserved : goal.loop-i-preserved
 loop-i-preserved c = let given = c.args in (
   search rules,
-  bytes_next given.a.now given.b.now c.loop-i.i _ _ c.loop-i.invariant.1 c.if-a-b.false (search rules) c.capital_byte-x.ensures c.capital_byte-y.ensures c.if-x-y.false,
+  bytes_next given.a.now given.b.now c.loop-i.i _ _ c.loop-i.invariant.1 c.if-a-b.false (search rules) (search rules) (search rules) c.if-x-y.false,
 )
 
 pub returns : goal.returns

@@ -4,7 +4,7 @@ use borrow.Author.Rules.{rules}
 use Rattle.rows.proofs.values.with_label.Goals as goal
 
 pub returns-then-n-eq0 : goal.returns-then-n-eq0
-returns-then-n-eq0 c = no_label c.args.n c.args.labelled.now _ (search rules) c.empty.ensures
+returns-then-n-eq0 c = no_label c.args.n c.args.labelled.now _ (search rules) (search rules)
 
 pub returns-else-n-eq0 : goal.returns-else-n-eq0
 returns-else-n-eq0 c = some_label c.args.n c.args.labelled.now _ (search rules) (search rules)

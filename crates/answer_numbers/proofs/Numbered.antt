@@ -10,11 +10,8 @@ use Rattle.trace.specs.declared.Record.{Record}
 use Rattle.pairs.specs.declared.Layout.{Layout}
 use Rattle.pairs.specs.declared.Layout.TheVariants.{Square, Half}
 use Rattle.relations.specs.declared.Composed.{Composed}
-use Rattle.relations.specs.declared.Composed.TheVariants as Composed
 use Rattle.relations.specs.declared.Related.{Related}
-use Rattle.relations.specs.declared.Related.TheVariants as Related
 use Rattle.reading.specs.declared.Ending.{Ending}
-use Rattle.reading.specs.declared.Ending.TheVariants as Ending
 use Rattle.reading.specs.declared.LogRead.{LogRead}
 use Rattle.single.specs.declared.Outcome.{Outcome}
 use Rattle.single.specs.declared.Outcome.TheVariants.{Holds, Fails, Refused}
@@ -22,11 +19,9 @@ use Rattle.single.specs.declared.Checked.{Checked}
 use Rattle.tallies.specs.declared.Tally.{Tally}
 use Rattle.tallies.specs.declared.Tallied.{Tallied}
 use Rattle.output.specs.declared.Written.{Written}
-use Rattle.output.specs.declared.Written.TheVariants as Written
 use Rattle.whole_log.specs.declared.Mode.TheVariants.{FirstFailure, Full}
 use Rattle.whole_log.proofs.Part.{not_full}
 use Rattle.report.specs.declared.Reported.{Reported}
-use Rattle.report.specs.declared.Reported.TheVariants as Reported
 use Rattle.record_bytes.specs.declared.PackOutcome.{PackOutcome as Packed}
 use Rattle.record_bytes.specs.Form.{record_size}
 use Rattle.record_bytes.specs.Calls.{pack_of, Packs}

@@ -1,10 +1,9 @@
 -- An answer is read in one way, whichever call it is of: what is below 65,536 is no refusal, and a refusal is told apart from the value
 -- beside it. Verdicts, sets, relations, counts of lines and lengths are below 65,536.
 use Prim.Native.Nat.{ℕ, ◌+◌, ◌<◌, ◌≤◌}
-use mathlib.Core.Path.{◌≡◌, refl}
+use mathlib.Core.Path.{◌≡◌}
 use native.Mathlib.Omega.{arith}
 use Rattle.logic.specs.declared.Verdict.{Verdict}
-use Rattle.logic.specs.declared.Verdict.TheVariants as Verdict
 use Rattle.single.specs.Line.{judged}
 use Rattle.answer_numbers.specs.Numbers.{refusal, refusal_in, value_in, outcome_number}
 

@@ -2,7 +2,6 @@
 use Rattle.std.specs.Prelude.{ℕ, cond, List, [], ◌∷◌, ◌++◌, eqb, ltb, get_or, drop}
 use Rattle.trace.specs.declared.Record.{Record}
 use Rattle.reading.specs.declared.Ending.{Ending}
-use Rattle.reading.specs.declared.Ending.TheVariants as Ending
 use Rattle.reading.specs.declared.LogRead.{LogRead}
 use Rattle.single.specs.declared.Outcome.{Outcome}
 use Rattle.single.specs.declared.Outcome.TheVariants.{Holds, Fails, Refused}

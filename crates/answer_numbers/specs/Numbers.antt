@@ -6,20 +6,15 @@ use Rattle.std.proofs.Math.Option.{Option, none, some}
 use Rattle.pairs.specs.declared.Layout.{Layout}
 use Rattle.pairs.specs.declared.Layout.TheVariants.{Square, Half}
 use Rattle.relations.specs.declared.Composed.{Composed}
-use Rattle.relations.specs.declared.Composed.TheVariants as Composed
 use Rattle.relations.specs.declared.Related.{Related}
-use Rattle.relations.specs.declared.Related.TheVariants as Related
 use Rattle.reading.specs.declared.Ending.{Ending}
 use Rattle.reading.specs.declared.Ending.TheVariants.{Read, Refused}
 use Rattle.reading.specs.declared.LogRead.{LogRead}
 use Rattle.single.specs.declared.Outcome.{Outcome}
-use Rattle.single.specs.declared.Outcome.TheVariants as Outcome
 use Rattle.output.specs.declared.Written.{Written}
-use Rattle.output.specs.declared.Written.TheVariants as Written
 use Rattle.whole_log.specs.declared.Mode.{Mode}
 use Rattle.whole_log.specs.declared.Mode.TheVariants.{FirstFailure, Full}
 use Rattle.report.specs.declared.Reported.{Reported}
-use Rattle.report.specs.declared.Reported.TheVariants as Reported
 
 -- ── refusals ──
 abbrev pub refusal : ℕ → ℕ

@@ -21,7 +21,6 @@ use Rattle.pairs.specs.Layout.{work_size}
 use Rattle.pairs.specs.Pairs.{work_of}
 use Rattle.rules.specs.declared.Rule.{Rule}
 use Rattle.rules.specs.declared.RuleRead.{RuleRead}
-use Rattle.rules.specs.declared.RuleRead.TheVariants as RuleRead
 use Rattle.rules.specs.Limits.{max_file_bytes}
 use Rattle.rules.specs.Formula.{Formula}
 use Rattle.rules.specs.Rules.{rule_of, formula_of}
@@ -31,7 +30,6 @@ use Rattle.grammar.specs.Stands.{RuleFile}
 use Rattle.grammar.proofs.RuleMet.{rule_met}
 use Rattle.grammar.proofs.Stands.{rule_says, rule_file-taken}
 use Rattle.logic.specs.declared.Verdict.{Verdict}
-use Rattle.logic.specs.declared.Verdict.TheVariants as Verdict
 use Rattle.logic.specs.Verdict.{verdict_byte, verdict_of}
 use Rattle.tallies.specs.declared.Tally.{Tally}
 use Rattle.tallies.specs.declared.Tallied.{Tallied}
@@ -69,7 +67,6 @@ use Rattle.slip_form.specs.Slips.{slip_runs}
 use Rattle.slips.specs.declared.Finding.{Finding}
 use Rattle.slips.specs.declared.Found.TheVariants as Found
 use Rattle.slips.specs.declared.Passing.{Passing}
-use Rattle.slips.specs.declared.Passing.TheVariants as Passing
 use Rattle.slips.specs.Answers.{without_slip, FindsIn, ReadsIn, SlipCall, FindsFirst, ReadsSlip}
 use Rattle.letter_case.specs.Recased.{RecasedLog, RecasedRule, RecasedText}
 use Rattle.letter_case.proofs.Lines.{lines_recased, line_recased}

@@ -11,7 +11,7 @@ use lib.Seq.{get_or_at}
 use Rattle.lists.proofs.Cases.{either_lt, never}
 use Rattle.lists.proofs.Lists.{get_d_pad, zeros}
 use Rattle.labels.specs.declared.Label.{Label}
-use Rattle.labels.specs.Label.{capital, capitals, label_form?, label_of, text, no_label, absent}
+use Rattle.labels.specs.Label.{capitals, label_form?, label_of, text, no_label, absent}
 use Rattle.labels.specs.Fnv.{fnv_of}
 use Rattle.labels.specs.Table.{label_at, with_label, Distinct, label_places, first_place}
 use Rattle.labels.proofs.Capitals.{capital_is}

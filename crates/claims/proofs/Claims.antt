@@ -4,7 +4,6 @@ use mathlib.Core.Path.{◌≡◌, ◌∙◌}
 use native.Mathlib.Omega.{arith}
 use borrow.Author.Tests.{le-leb}
 use Rattle.relations.specs.declared.Composed.{Composed}
-use Rattle.relations.specs.declared.Composed.TheVariants as Composed
 use Rattle.relations.specs.Compose.{compose_of, composed_of}
 use Rattle.relations.proofs.Demand.{demand-3 as composition-law}
 use Rattle.claims.specs.Demands.{Demand3, Demands}

@@ -17,9 +17,7 @@ use Rattle.pairs.specs.declared.Layout.{Layout}
 use Rattle.pairs.specs.Layout.{work_size}
 use Rattle.rules.specs.declared.Rule.{Rule}
 use Rattle.rules.specs.declared.RuleRead.{RuleRead}
-use Rattle.rules.specs.declared.RuleRead.TheVariants as RuleRead
 use Rattle.rules.specs.Rules.{rule_of}
-use Rattle.grammar.specs.MetRule.{MetRule}
 use Rattle.grammar.proofs.RuleMet.{rule_met}
 use Rattle.reading.specs.Left.{Left, Unknown}
 use Rattle.reading.proofs.Standing.{one_trace}

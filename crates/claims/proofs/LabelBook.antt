@@ -4,12 +4,12 @@ use mathlib.Core.Path.{◌≡◌, refl, ap, sym, subst, ◌∙◌}
 use mathlib.Core.Option.{some}
 use mathlib.Core.List.{List}
 use native.Mathlib.Omega.{arith}
-use lib.ListN.{length, take, drop}
+use lib.ListN.{take, drop}
 use denote.Ref.{Bor}
 use Rattle.label_book.specs.declared.Piece.{Piece}
-use Rattle.label_book.specs.declared.Piece.TheVariants.{InBook, InLog, Refused}
+use Rattle.label_book.specs.declared.Piece.TheVariants.{InBook, InLog}
 use Rattle.label_book.specs.Book.{Entry, InByteOrder, capitals_at, Book}
-use Rattle.label_book.specs.Piece.{piece_at, MetPiece, no_book, no_label, TextOfBook, BytesOfLog, piece_for, TellsPiece, SliceOf, StandsIn, Hands}
+use Rattle.label_book.specs.Piece.{piece_at, MetPiece, no_book, no_label, TextOfBook, BytesOfLog, TellsPiece, SliceOf, StandsIn, Hands}
 use Rattle.label_book.proofs.Order.{never_before_itself}
 use Rattle.label_book.proofs.Written.{text_there}
 use Rattle.label_book.proofs.Meaning.{book_read}

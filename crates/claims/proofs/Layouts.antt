@@ -1,5 +1,5 @@
 -- The answers of a call do not depend on the layout that it names, and when an area of one layout is right in the other.
-use Prim.Native.Nat.{ℕ, ◌+◌, ◌-◌, ◌≤◌, ◌<◌}
+use Prim.Native.Nat.{ℕ, ◌+◌, ◌≤◌, ◌<◌}
 use mathlib.Core.Path.{◌≡◌, refl, ap, sym, subst, ◌∙◌}
 use mathlib.Core.Logic.{◌≢◌, ◌↔◌}
 use mathlib.Core.List.{List, [], ◌∷◌}
@@ -23,7 +23,6 @@ use Rattle.pairs.proofs.Places.{places, square_below, half_exact, half_full}
 use Rattle.pairs.proofs.Work.{work_pair, work_few, few_work, one_layout}
 use Rattle.rules.specs.declared.Rule.{Rule}
 use Rattle.rules.specs.declared.RuleRead.{RuleRead}
-use Rattle.rules.specs.declared.RuleRead.TheVariants as RuleRead
 use Rattle.rules.specs.Rules.{rule_of, formula_of}
 use Rattle.logic.specs.Verdict.{verdict_byte, verdict_of}
 use Rattle.reading.specs.declared.Ending.TheVariants as Ending

@@ -8,17 +8,14 @@ use Rattle.labels.specs.declared.Label.{Label}
 use Rattle.labels.specs.Label.{label_of, equal_label?}
 use Rattle.labels.specs.Table.{index_of, number_of, with_label}
 use native.Mathlib.Omega.{arith}
-use lib.ListN.{length}
 use Rattle.lines.specs.Event.{begins}
 use Rattle.lines.specs.Line.{event_of}
-use Rattle.trace.specs.Trace.{Trace, next, begin, end, begin_run, end_run, running?, close, apply_to, read, step, apply, start, finish, Accepted}
+use Rattle.trace.specs.Trace.{Trace, next, begin, end, begin_run, end_run, running?, close, apply_to, read, step, apply}
 use Rattle.trace.proofs.Examples.{run}
 use Rattle.trace.specs.Orderly.{Orderly}
 use Rattle.trace.proofs.Accepted.{accepted_orderly}
 use Rattle.trace.proofs.Taken.{step_is}
-use Rattle.relations.specs.Relation.{Relation, before, during, number, includes, overlaps}
-use Rattle.relations.specs.Runs.{FinishedRun}
-use Rattle.relations.specs.Compose.{Shown, ShownByThree}
+use Rattle.relations.specs.Relation.{before, during, number}
 use Rattle.relations.proofs.Runs.{none_to_itself}
 use Rattle.relations.proofs.Demand.{demand-3}
 use Rattle.relations.proofs.Examples.{examples}
@@ -28,7 +25,7 @@ use Rattle.rules.specs.Cases.{some_same_as_itself}
 use Rattle.grammar.specs.Forms.{Begins}
 use Rattle.grammar.proofs.BytesMet.{begins-says}
 use Rattle.logic.specs.declared.Verdict.TheVariants.{Holds, Fails}
-use Rattle.logic.specs.Satisfies.{Related, Satisfies}
+use Rattle.logic.specs.Satisfies.{Satisfies}
 use Rattle.logic.specs.Model.{eval}
 use Rattle.logic.specs.Verdict.{After}
 use Rattle.logic.proofs.Examples.{after, left, test_label}

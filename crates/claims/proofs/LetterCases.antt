@@ -40,7 +40,7 @@ use Rattle.typed_file.specs.File.{nodes_bytes, file_from, file_of}
 use Rattle.typed_file.specs.Answer.{typed_answer, bytes_of}
 use Rattle.rule_text.specs.Text as Text
 use Rattle.rule_text.specs.Text.{text_answer, answer_of}
-use Rattle.output.specs.declared.Written.TheVariants.{Length, Refused}
+use Rattle.output.specs.declared.Written.TheVariants.{Length}
 use Rattle.claims.specs.LetterCases.{p1_small, two_labels, LetterCases}
 
 -- ── rule files ──

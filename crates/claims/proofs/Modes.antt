@@ -19,7 +19,6 @@ use Rattle.logic.specs.declared.Verdict.TheVariants as Verdict
 use Rattle.logic.specs.Verdict.{verdict_byte, verdict_of, Says}
 use Rattle.reading.specs.declared.LogRead.{LogRead}
 use Rattle.reading.specs.declared.Ending.{Ending}
-use Rattle.reading.specs.declared.Ending.TheVariants as Ending
 use Rattle.reading.specs.Reading.{read_from, read_answer}
 use Rattle.reading.proofs.Lines.{lines_accepted, taken_lines}
 use Rattle.single.proofs.LineMeans.{verdict_says}

@@ -26,14 +26,11 @@ use Rattle.pairs.specs.Start.{start_of}
 use Rattle.pairs.specs.declared.Started.{Started}
 use Rattle.pairs.specs.declared.Start.TheVariants as Start
 use Rattle.relations.specs.declared.Related.{Related}
-use Rattle.relations.specs.declared.Related.TheVariants as Related
 use Rattle.relations.specs.declared.Composed.{Composed}
-use Rattle.relations.specs.declared.Composed.TheVariants as Composed
 use Rattle.relations.specs.Sets.{converse_of, conversed_of}
 use Rattle.relations.specs.Runs.{finished?, relation_in, relate_in, Answers, Relating, Conversed}
 use Rattle.relations.specs.Compose.{compose_of, composed_of, Composition}
 use Rattle.report.specs.declared.Reported.{Reported}
-use Rattle.report.specs.declared.Reported.TheVariants as Reported
 use Rattle.report.specs.Text.{report_text}
 use Rattle.report.specs.Report.{Result, report_of, Reports}
 use Rattle.claims.specs.WhereMet.{MetRelate, relate-unknown, relate-unfinished, relate_same}

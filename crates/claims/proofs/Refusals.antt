@@ -1,10 +1,10 @@
 -- Demand 1: each refusal is on the list and keeps what earlier lines had settled, and no call writes past what it is stated to write.
-use Prim.Native.Nat.{ℕ, ◌≤◌, ◌<◌}
+use Prim.Native.Nat.{ℕ, ◌≤◌}
 use mathlib.Core.Path.{◌≡◌, refl, ap, sym, ◌∙◌, subst}
 use mathlib.Core.Logic.{◌↔◌}
 use mathlib.Core.List.{List}
 use mathlib.Core.Option.{Option, none, some}
-use mathlib.Core.Bool.{true, false, ◌||◌}
+use mathlib.Core.Bool.{false, ◌||◌}
 use native.Mathlib.Omega.{arith}
 use lib.Dec.{ltb}
 use lib.ListN.{length}
@@ -16,22 +16,13 @@ use Rattle.lines.specs.declared.Next.{Next}
 use Rattle.lines.specs.declared.Parsed.TheVariants as Parsed
 use Rattle.lines.proofs.Event.{event_refusal}
 use Rattle.trace.specs.declared.Record.{Record}
-use Rattle.trace.specs.declared.RunNo.{RunNo}
 use Rattle.trace.specs.Trace.{Trace, Answer, next, refused, no_trace, step}
 use Rattle.trace.specs.Record.{record_of}
 use Rattle.pairs.specs.declared.Layout.{Layout}
 use Rattle.pairs.specs.Layout.{work_size}
 use Rattle.pairs.specs.Pairs.{work_of}
-use Rattle.pairs.specs.declared.Start.TheVariants as Start
-use Rattle.relations.specs.declared.Related.{Related}
-use Rattle.relations.specs.declared.Related.TheVariants as Related
-use Rattle.relations.specs.declared.Composed.{Composed}
-use Rattle.relations.specs.declared.Composed.TheVariants as Composed
-use Rattle.relations.specs.Runs.{Relating, Conversed}
-use Rattle.relations.specs.Compose.{Composition}
 use Rattle.rules.specs.declared.Rule.{Rule}
 use Rattle.rules.specs.declared.RuleRead.{RuleRead}
-use Rattle.rules.specs.declared.RuleRead.TheVariants as RuleRead
 use Rattle.rules.specs.Rules.{rule_of, formula_of, ReadsRule}
 use Rattle.rules.proofs.Rules.{reads_rule}
 use Rattle.grammar.specs.MetBytes.{MetBytes}
@@ -46,11 +37,11 @@ use Rattle.tallies.specs.declared.Tallied.{Tallied}
 use Rattle.reading.specs.declared.LogRead.{LogRead}
 use Rattle.reading.specs.declared.Ending.TheVariants as Ending
 use Rattle.single.specs.Handed.{HandedBy, Reached}
-use Rattle.single.specs.Line.{refusing, line_after, advance_of, state_of, with_rule, line_of, ChecksLine}
-use Rattle.tallies.specs.Tally.{refusing_with, counts?, tallied_after, tallied_state, tallied_of, ChecksTallied}
+use Rattle.single.specs.Line.{refusing, line_after, advance_of, state_of, with_rule, line_of}
+use Rattle.tallies.specs.Tally.{refusing_with, counts?, tallied_after, tallied_state, tallied_of}
 use Rattle.reading.specs.Reading.{ended}
-use Rattle.whole_log.specs.Log.{not_read, lines_from, log_of, LineAt, ChecksLog}
-use Rattle.report.specs.Calls.{StartCall, LineCall, TalliedCall, LogCall, ReportCall, LongEnough, log_part, report_part}
+use Rattle.whole_log.specs.Log.{not_read, lines_from, log_of, LineAt}
+use Rattle.report.specs.Calls.{LineCall, TalliedCall, LogCall, log_part, report_part}
 use Rattle.claims.specs.WhereMet.{MetRelate, relate-unknown, relate-unfinished, relate_same}
 use Rattle.claims.specs.Demand1.{Listed, Refuses, LogKept, unread, stopped, Demand1}
 use Rattle.accepted_logs.proofs.Numbers.{line_number}

@@ -9,8 +9,7 @@ use Rattle.lists.specs.Lists.{bytes, pad}
 use Rattle.labels.specs.Label.{label_of, equal_label?}
 use Rattle.labels.specs.Table.{index_of, with_label, number_of}
 use Rattle.lines.specs.Line.{event_of}
-use Rattle.trace.specs.Trace.{Trace, step, apply_to, apply, begin_run, begin, end_run, running?, end, close, read, Accepted}
-use Rattle.trace.specs.declared.Record.{Record}
+use Rattle.trace.specs.Trace.{step, apply_to, apply, begin_run, begin, end_run, running?, end, close, read, Accepted}
 use Rattle.trace.specs.Record.{record_of}
 use Rattle.rules.specs.Formula.{Formula, both, neg, exists, has, pair, before, overlaps, includes, same, scoped, shallow}
 use Rattle.rules.specs.Cases.{p10_file, p10_rule, p1_file, p1_rule, no_evening_includes_test, no_test_without_run_after, some_same_as_itself}
@@ -33,7 +32,6 @@ use Rattle.slip_form.specs.declared.Slip.{Slip}
 use Rattle.slips.specs.declared.Found.TheVariants as Found
 use Rattle.slips.specs.declared.Finding.{Finding}
 use Rattle.slips.specs.declared.Passing.{Passing}
-use Rattle.slips.specs.declared.Passing.TheVariants as Passing
 use Rattle.slips.specs.Answers.{with_slip, without_slip, least_below, first_runs, found_in, fits?, passing_in, FindsFirst, ReadsSlip}
 use Rattle.whole_log.specs.Cases.{p1_log, p1_trace}
 use Rattle.claims.specs.SlipCases.{bound_twice, five_some, none_before, all_other, no_test_four_times, bare_five, row_log, row_trace, three_lines, three_trace, SlipCases}

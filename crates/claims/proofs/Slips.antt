@@ -1,5 +1,5 @@
 -- Where the calls on slips refuse, and what their answers say of a rule file and the log of a record.
-use Prim.Native.Nat.{ℕ, ◌≤◌}
+use Prim.Native.Nat.{ℕ}
 use mathlib.Core.Path.{◌≡◌, refl, sym, ap, subst, ◌∙◌}
 use mathlib.Core.Logic.{◌↔◌}
 use mathlib.Core.Bool.{Bool, true, false, cond}
@@ -11,7 +11,6 @@ use Rattle.trace.specs.Trace.{Trace, Accepted}
 use Rattle.trace.specs.Record.{record_of, Valid}
 use Rattle.rules.specs.declared.Rule.{Rule}
 use Rattle.rules.specs.declared.RuleRead.{RuleRead}
-use Rattle.rules.specs.declared.RuleRead.TheVariants as RuleRead
 use Rattle.rules.specs.Formula.{Formula, neg}
 use Rattle.rules.specs.Rules.{rule_of, formula_of}
 use Rattle.grammar.specs.MetRule.{MetRule}
@@ -28,17 +27,15 @@ use Rattle.single.specs.Line.{judged}
 use Rattle.report.specs.Calls.{LineCall}
 use Rattle.slip_form.specs.declared.Slip.{Slip}
 use Rattle.slip_form.specs.Form.{some_of, SlipForm}
-use Rattle.slip_form.specs.Slips.{bind_each, unbound, Fits, Passes, slip_runs, slip_of, FirstSlip}
+use Rattle.slip_form.specs.Slips.{bind_each, unbound, Fits, Passes, slip_runs, slip_of}
 use Rattle.slips.specs.declared.Found.{Found}
-use Rattle.slips.specs.declared.Found.TheVariants as Found
 use Rattle.slips.specs.declared.Finding.{Finding}
 use Rattle.slips.specs.declared.Passing.{Passing}
-use Rattle.slips.specs.declared.Passing.TheVariants as Passing
 use Rattle.slips.specs.Answers.{with_slip, without_slip, first_runs, found_in, fits?, passing_in, FindsIn, ReadsIn, SlipCall, FindsFirst, ReadsSlip}
 use Rattle.slip_search.proofs.Places.{length-numbers}
 use Rattle.slips.proofs.Said.{some_passes}
-use Rattle.claims.specs.Demand1.{Listed, Refuses}
-use Rattle.claims.specs.Slips.{MetSlips, slip_rule, slip_form, slip_record, slip_then, MetFinding, MetPassing, Of, Slips}
+use Rattle.claims.specs.Demand1.{Listed}
+use Rattle.claims.specs.Slips.{MetSlips, slip_rule, slip_form, slip_record, slip_then, Of, Slips}
 use Rattle.claims.proofs.Refusals.{rule_number, lent_nothing}
 use Rattle.claims.proofs.Verdicts.{demand-2}
 

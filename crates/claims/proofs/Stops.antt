@@ -13,9 +13,8 @@ use Rattle.pairs.specs.Pairs.{work_of}
 use Rattle.rules.specs.declared.Rule.{Rule}
 use Rattle.rules.specs.Rules.{formula_of}
 use Rattle.logic.specs.declared.Verdict.{Verdict}
-use Rattle.logic.specs.declared.Verdict.TheVariants as Verdict
 use Rattle.logic.specs.Verdict.{verdict_byte, verdict_of}
-use Rattle.single.specs.declared.Outcome.TheVariants.{Holds, Fails, Refused}
+use Rattle.single.specs.declared.Outcome.TheVariants.{Refused}
 use Rattle.reading.specs.declared.Ending.TheVariants as Ending
 use Rattle.reading.specs.declared.LogRead.{LogRead}
 use Rattle.single.specs.Line.{judged}

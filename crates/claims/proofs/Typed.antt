@@ -12,7 +12,7 @@ use borrow.Author.Tests.{lt-ltb, le-ltb}
 use Rattle.lists.proofs.Cases.{either_lt}
 use Rattle.lists.specs.Limits.{max_lines}
 use Rattle.lines.specs.Log.{lines_of, flat}
-use Rattle.trace.specs.Trace.{Trace, Accepted, Answer, next, refused, no_trace, step}
+use Rattle.trace.specs.Trace.{Trace, Answer, next, refused, no_trace, step}
 use Rattle.pairs.specs.declared.Layout.{Layout}
 use Rattle.pairs.specs.Layout.{work_size}
 use Rattle.pairs.specs.Pairs.{work_of}
@@ -27,11 +27,9 @@ use Rattle.whole_log.specs.Log.{lines_from, not_read, log_of}
 use Rattle.whole_log.specs.Part.{behind, to_failure, read_part}
 use Rattle.rules.specs.declared.Rule.{Rule}
 use Rattle.rules.specs.declared.RuleRead.{RuleRead}
-use Rattle.rules.specs.declared.RuleRead.TheVariants as RuleRead
 use Rattle.rules.specs.Formula.{Formula}
 use Rattle.rules.specs.Rules.{rule_of, formula_of}
 use Rattle.rules.proofs.Rules.{rule_taken, rule_refused}
-use Rattle.grammar.specs.MetRule.{MetRule}
 use Rattle.grammar.specs.Stands.{RuleFile}
 use Rattle.grammar.specs.Written.{EachByte}
 use Rattle.grammar.proofs.RuleMet.{rule_met}
@@ -39,7 +37,7 @@ use Rattle.grammar.proofs.Stands.{rule_says, rule_file-taken}
 use Rattle.logic.specs.declared.Verdict.{Verdict}
 use Rattle.logic.specs.Satisfies.{Binding, Satisfies}
 use Rattle.logic.specs.declared.Verdict.TheVariants.{Holds, Fails}
-use Rattle.logic.specs.Verdict.{verdict_byte, verdict_of, Says}
+use Rattle.logic.specs.Verdict.{verdict_byte, verdict_of}
 use Rattle.typed_grammar.specs.Grammar as Grammar
 use Rattle.typed_grammar.specs.Grammar.{Tree}
 use Rattle.typed_grammar.specs.Formula.{formula_said}
@@ -51,7 +49,7 @@ use Rattle.typed.specs.Grammar.{read_text}
 use Rattle.output.specs.Written.{left_by}
 use Rattle.output.specs.declared.Written.{Written}
 use Rattle.output.specs.declared.Written.TheVariants.{Length, Refused}
-use Rattle.typed_file.specs.Answer.{typed_answer, bytes_of, ReadsText}
+use Rattle.typed_file.specs.Answer.{typed_answer, bytes_of}
 use Rattle.rule_text.specs.Text.{text_of, text_answer, WritesText}
 use Rattle.rule_text.specs.Text as Text
 use Rattle.typed_meaning.proofs.TextMet.{says_one, refused_met, met_refused, refused_numbers, written_said}

@@ -1,8 +1,8 @@
 -- No call changes a byte past those it is stated to write. The bytes of a work area past its pair bytes are those that it had; a verdict
 -- buffer is written up to the lines that are taken, and a text buffer up to the end of the text.
-use Prim.Native.Nat.{ℕ, ◌+◌, ◌-◌, ◌≤◌, ◌<◌}
+use Prim.Native.Nat.{ℕ, ◌+◌, ◌-◌, ◌≤◌}
 use mathlib.Core.Path.{◌≡◌, refl, ap, sym, ◌∙◌, subst}
-use mathlib.Core.List.{List, ◌∷◌, ◌++◌}
+use mathlib.Core.List.{List, ◌++◌}
 use mathlib.Core.Option.{some}
 use mathlib.Core.Bool.{true, false, ◌||◌}
 use native.Mathlib.Omega.{arith}
@@ -15,7 +15,6 @@ use Rattle.lists.proofs.Cases.{either_lt, either_bool, no_both}
 use Rattle.lines.specs.Log.{lines_of}
 use Rattle.trace.specs.declared.Record.{Record}
 use Rattle.trace.specs.Trace.{Trace, Answer, next, refused, no_trace, step}
-use Rattle.trace.specs.Record.{record_of}
 use Rattle.pairs.specs.declared.Layout.{Layout}
 use Rattle.pairs.specs.Layout.{work_size, place, area_of}
 use Rattle.pairs.specs.Pairs.{pair_byte, work_of}
@@ -24,10 +23,8 @@ use Rattle.pairs.specs.declared.Started.{Started}
 use Rattle.pairs.proofs.Area.{length_area}
 use Rattle.rules.specs.declared.Rule.{Rule}
 use Rattle.rules.specs.declared.RuleRead.{RuleRead}
-use Rattle.rules.specs.declared.RuleRead.TheVariants as RuleRead
 use Rattle.rules.specs.Rules.{rule_of}
 use Rattle.reading.specs.declared.Ending.{Ending}
-use Rattle.reading.specs.declared.Ending.TheVariants as Ending
 use Rattle.reading.specs.Left.{Left}
 use Rattle.reading.proofs.Standing.{pairs_long}
 use Rattle.single.specs.declared.Checked.{Checked}
@@ -38,10 +35,9 @@ use Rattle.whole_log.specs.Log.{not_read, lines_from, log_of, LogMeans}
 use Rattle.whole_log.specs.Repeated.{Result}
 use Rattle.whole_log.proofs.LogMeans.{log_means}
 use Rattle.report.specs.declared.Reported.{Reported}
-use Rattle.report.specs.declared.Reported.TheVariants as Reported
 use Rattle.report.specs.Text.{report_text}
 use Rattle.report.specs.Report.{report_of}
-use Rattle.report.specs.Calls.{StartCall, LineCall, TalliedCall, LogCall, ReportCall, Beyond, Lent, start_work, line_work, tallied_work, log_work, log_verdicts, report_work, report_verdicts, report_text_lem, log_part, report_part}
+use Rattle.report.specs.Calls.{LineCall, TalliedCall, LogCall, ReportCall, Beyond, Lent, start_work, line_work, tallied_work, log_work, log_verdicts, report_work, report_verdicts, report_text_lem, log_part, report_part}
 use Rattle.claims.proofs.Fronts.{handed, every}
 use Rattle.claims.proofs.WhereMet.{line_answer_lem, tallied_answer}
 

@@ -35,11 +35,9 @@ use Rattle.rules.specs.Rules.{rule_of, formula_of}
 use Rattle.logic.specs.declared.Verdict.{Verdict}
 use Rattle.logic.specs.Satisfies.{Related}
 use Rattle.logic.specs.Verdict.{verdict_byte, verdict_of, Says}
-use Rattle.single.specs.declared.Outcome.TheVariants.{Refused}
 use Rattle.single.specs.Line.{judged}
 use Rattle.tallies.specs.Tally.{counts?, failed, tally_after, TallyCounts}
 use Rattle.reading.specs.declared.Ending.{Ending}
-use Rattle.reading.specs.declared.Ending.TheVariants as Ending
 use Rattle.reading.specs.Left.{Left}
 use Rattle.pairs.proofs.Work.{work_over, work_pair, work_other}
 use Rattle.reading.proofs.Standing.{pairs_long}
@@ -48,7 +46,7 @@ use Rattle.whole_log.proofs.Verdicts.{verdicts_of_prefixes}
 use Rattle.whole_log.proofs.Cut.{first_bytes_decide}
 use Rattle.report.proofs.Cut.{first_bytes_decide_report}
 use Rattle.tallies.proofs.Failing.{tally_starts, tally_taken}
-use Rattle.report.specs.Calls.{StartCall, LineCall, TalliedCall, LogCall, ReportCall, log_part}
+use Rattle.report.specs.Calls.{LineCall, TalliedCall, LogCall, log_part}
 use Rattle.claims.specs.WhereMet.{wrong, then}
 use Rattle.report.specs.Settled.{Notes, Settled, Judged, Reads}
 use Rattle.claims.specs.Demand2.{Demand2}

@@ -18,7 +18,6 @@ use Rattle.trace.proofs.Finished.{finished_few}
 use Rattle.trace.proofs.Taken.{line_lines, by_answer_lem}
 use Rattle.rules.specs.declared.Rule.{Rule}
 use Rattle.rules.specs.declared.RuleRead.{RuleRead}
-use Rattle.rules.specs.declared.RuleRead.TheVariants as RuleRead
 use Rattle.rules.specs.Rules.{rule_of, formula_of}
 use Rattle.grammar.proofs.RuleMet.{rule_met}
 use Rattle.logic.specs.Verdict.{verdict_of}

@@ -12,11 +12,9 @@ use Rattle.pairs.specs.declared.Start.TheVariants as Start
 use Rattle.relations.specs.declared.Related.TheVariants as RelateAnswer
 use Rattle.relations.specs.declared.Related as Answer
 use Rattle.relations.specs.declared.Composed.{Composed}
-use Rattle.relations.specs.declared.Composed.TheVariants as Composed
 use Rattle.relations.specs.Runs.{Relating, Conversed}
 use Rattle.relations.specs.Compose.{Composition}
 use Rattle.rules.specs.declared.RuleRead.{RuleRead}
-use Rattle.rules.specs.declared.RuleRead.TheVariants as RuleRead
 use Rattle.rules.specs.Rules.{ReadsRule}
 use Rattle.reading.specs.declared.Ending.TheVariants as Ending
 use Rattle.reading.specs.Reading.{ended}

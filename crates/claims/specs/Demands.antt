@@ -43,9 +43,8 @@
 --   TextMeans           what the printed text says of a log                               report/specs/Report
 --   Repeats             the single-line call, one line after another                      whole_log/specs/Repeated
 --   Member, Shown, ShownByThree   sets of relations; what a log shows by three runs       relations/specs
-use Rattle.std.specs.Prelude.{ℕ, ◌<◌, ◌≡◌, ◌↔◌, List, length}
+use Rattle.std.specs.Prelude.{ℕ, ◌<◌, ◌≡◌, ◌↔◌, List}
 use Rattle.relations.specs.declared.Composed.{Composed}
-use Rattle.relations.specs.declared.Composed.TheVariants as Composed
 use Rattle.relations.specs.Relation.{Relation}
 use Rattle.relations.specs.Sets.{Member}
 use Rattle.relations.specs.Compose.{Composition, Shown, ShownByThree}

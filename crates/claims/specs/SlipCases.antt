@@ -13,7 +13,6 @@ use Rattle.slip_form.specs.Slips.{bind_each, unbound, Before, run_no, slip_runs,
 use Rattle.slips.specs.declared.Finding.{Finding}
 use Rattle.slips.specs.declared.Found.TheVariants as Found
 use Rattle.slips.specs.declared.Passing.{Passing}
-use Rattle.slips.specs.declared.Passing.TheVariants as Passing
 use Rattle.slips.specs.Answers.{with_slip, without_slip, FindsFirst, ReadsSlip}
 use Rattle.whole_log.specs.Cases.{p1_run, p1_trace}
 

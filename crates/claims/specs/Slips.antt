@@ -18,7 +18,6 @@ use Rattle.slip_form.specs.Slips.{Fits, Passes, slip_runs, FirstSlip}
 use Rattle.slips.specs.declared.Finding.{Finding}
 use Rattle.slips.specs.declared.Found.TheVariants as Found
 use Rattle.slips.specs.declared.Passing.{Passing}
-use Rattle.slips.specs.declared.Passing.TheVariants as Passing
 use Rattle.slips.specs.Answers.{with_slip, without_slip, FindsFirst, ReadsSlip}
 use Rattle.claims.specs.Demand1.{Refuses}
 

@@ -1,6 +1,6 @@
 -- The worked cases of typed rules: P1's rule, the four properties of document 000, figure 1, and texts that tell each
 -- sentence of the request from its misreadings.
-use Rattle.std.specs.Prelude.{ℕ, ◌≡◌, List, [], ◌∷◌, ◌++◌, length, replicate}
+use Rattle.std.specs.Prelude.{ℕ, ◌≡◌, List, [], ◌∷◌, ◌++◌, replicate}
 use Rattle.lists.specs.Lists.{bytes}
 use Rattle.rules.specs.Formula.{before, overlaps, includes, same, Formula, both, neg, exists, has, pair}
 use Rattle.rules.specs.Cases.{p1_file, no_evening_includes_test}

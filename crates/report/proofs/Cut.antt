@@ -15,7 +15,6 @@ use Rattle.trace.specs.Record.{record_of}
 use Rattle.pairs.specs.declared.Layout.TheVariants.{Square}
 use Rattle.pairs.specs.Layout.{work_size}
 use Rattle.rules.specs.declared.RuleRead.{RuleRead}
-use Rattle.rules.specs.declared.RuleRead.TheVariants as RuleRead
 use Rattle.rules.specs.Rules.{rule_of}
 use Rattle.rules.proofs.Rules.{rule_taken}
 use Rattle.rules.proofs.Cut.{first_bytes_decide_rule}

@@ -1,6 +1,6 @@
 -- The text of a record: the lines of its verdict bytes, how the reading ended, and the tally. Its counts are low enough to be
 -- printed, since the record is that of a trace that keeps its bounds.
-use Prim.Native.Nat.{ℕ, ◌+◌, ◌-◌, ◌≤◌}
+use Prim.Native.Nat.{ℕ, ◌≤◌}
 use mathlib.Core.Path.{◌≡◌, ap, sym, ◌∙◌, subst}
 use mathlib.Core.Bool.{Bool, true, false}
 use mathlib.Core.List.{List, ◌++◌}

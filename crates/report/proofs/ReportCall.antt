@@ -15,7 +15,6 @@ use Rattle.pairs.specs.declared.Layout.{Layout}
 use Rattle.pairs.specs.Layout.{work_size}
 use Rattle.rules.specs.declared.Rule.{Rule}
 use Rattle.rules.specs.declared.RuleRead.{RuleRead}
-use Rattle.rules.specs.declared.RuleRead.TheVariants as RuleRead
 use Rattle.rules.specs.Rules.{rule_of}
 use Rattle.rules.proofs.Rules.{reads_rule}
 use Rattle.reading.specs.declared.LogRead.{LogRead}

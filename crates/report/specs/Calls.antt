@@ -19,7 +19,6 @@ use Rattle.whole_log.specs.declared.Mode.{Mode}
 use Rattle.whole_log.specs.Log.{log_of}
 use Rattle.whole_log.specs.Part.{read_part, ChecksPart}
 use Rattle.report.specs.declared.Reported.{Reported}
-use Rattle.report.specs.declared.Reported.TheVariants as Reported
 use Rattle.report.specs.Report.{report_size, ReportsPart}
 
 -- starting a record

@@ -14,11 +14,10 @@ use Rattle.pairs.specs.Pairs.{work_of}
 use Rattle.rules.specs.declared.Rule.{Rule}
 use Rattle.rules.specs.Rules.{formula_of, Taken}
 use Rattle.logic.specs.declared.Verdict.{Verdict}
-use Rattle.logic.specs.declared.Verdict.TheVariants as Verdict
 use Rattle.logic.specs.Model.{eval, model_of}
 use Rattle.logic.specs.Verdict.{verdict_of, Says}
 use Rattle.logic.proofs.Judged.{closed_says}
-use Rattle.single.specs.declared.Outcome.TheVariants.{Holds, Fails, Refused}
+use Rattle.single.specs.declared.Outcome.TheVariants.{Refused}
 use Rattle.single.specs.declared.Checked.{Checked}
 use Rattle.single.specs.Line.{judged, line_after, advance_of, LineMeans}
 

@@ -1,12 +1,11 @@
 -- A slip that is found has one to four runs, so that 0 is the number of "none" alone. The slip of up to four bytes has
 -- these bytes as its runs.
-use Prim.Native.Nat.{ℕ, zero, suc, ◌≤◌}
-use mathlib.Core.Path.{◌≡◌, refl, sym, ap, subst, ◌∙◌}
+use Prim.Native.Nat.{ℕ, suc, ◌≤◌}
+use mathlib.Core.Path.{◌≡◌, refl, ap, ◌∙◌}
 use mathlib.Core.Logic.{◌↔◌}
-use mathlib.Core.Bool.{Bool, true, false, cond}
 use mathlib.Core.List.{List, [], ◌∷◌, ◌++◌, map}
 use native.Mathlib.Omega.{arith}
-use lib.ListN.{length, take, replicate}
+use lib.ListN.{length}
 use lib.Seq.{take_all}
 use Rattle.lists.specs.Lists.{pad}
 use Rattle.lists.proofs.Cases.{either_bool}
@@ -15,7 +14,6 @@ use Rattle.trace.specs.Trace.{Trace}
 use Rattle.trace.specs.declared.RunNo.{RunNo}
 use Rattle.rules.specs.declared.Rule.{Rule}
 use Rattle.rules.specs.declared.RuleRead.{RuleRead}
-use Rattle.rules.specs.declared.RuleRead.TheVariants as RuleRead
 use Rattle.rules.specs.Formula.{Formula}
 use Rattle.rules.specs.Rules.{rule_of, formula_of}
 use Rattle.rules.proofs.Rules.{rule_refused}
@@ -26,7 +24,6 @@ use Rattle.slip_form.specs.Form.{some_of, SlipForm}
 use Rattle.slip_form.specs.Slips.{unbound, run_no, numbers, slip_runs, slip_of}
 use Rattle.slip_search.proofs.Places.{length-numbers}
 use Rattle.slips.specs.declared.Found.{Found}
-use Rattle.slips.specs.declared.Found.TheVariants as Found
 use Rattle.slips.specs.declared.Finding.{Finding}
 use Rattle.slips.specs.Answers.{with_slip, without_slip, first_runs, found_in, FindsFirst}
 use Rattle.slip_bytes.specs.InBytes.{slip_from, runs_in, found_number, found_numbered}

@@ -13,9 +13,7 @@ use Rattle.slip_form.specs.declared.Slip.{Slip}
 use Rattle.slip_form.specs.Slips.{run_no, numbers, slip_runs}
 use Rattle.slip_search.proofs.Places.{length-numbers, map_last}
 use Rattle.slips.specs.declared.Found.{Found}
-use Rattle.slips.specs.declared.Found.TheVariants as Found
 use Rattle.slips.specs.declared.Passing.{Passing}
-use Rattle.slips.specs.declared.Passing.TheVariants as Passing
 use Rattle.slip_bytes.specs.InBytes.{slip_from, runs_in, found_number, passing_number}
 
 -- ── runs into bytes ──

@@ -6,10 +6,8 @@ use Rattle.rules.specs.Limits.{max_nested}
 use Rattle.slip_form.specs.declared.Slip.{Slip}
 use Rattle.slip_form.specs.Slips.{run_no, slip_runs}
 use Rattle.slips.specs.declared.Found.{Found}
-use Rattle.slips.specs.declared.Found.TheVariants as Found
 use Rattle.slips.specs.declared.Finding.{Finding}
 use Rattle.slips.specs.declared.Passing.{Passing}
-use Rattle.slips.specs.declared.Passing.TheVariants as Passing
 use Rattle.answer_numbers.specs.Numbers.{refusal}
 
 -- the slip that bytes are: as many runs as there are bytes, and no slip has more than four places

@@ -1,6 +1,6 @@
 -- The form of a rule, node by node: down the chain, and from the root.
-use Prim.Native.Nat.{ℕ, suc, ◌-◌, ◌<◌, ◌≤◌}
-use mathlib.Core.Path.{◌≡◌, refl, sym, ap, subst, ◌∙◌}
+use Prim.Native.Nat.{ℕ, ◌-◌, ◌<◌, ◌≤◌}
+use mathlib.Core.Path.{◌≡◌, refl, sym, ap, ◌∙◌}
 use mathlib.Core.Bool.{Bool, true, false, not, ◌&&◌}
 use mathlib.Core.List.{List}
 use native.Mathlib.Omega.{arith}
@@ -8,20 +8,19 @@ use borrow.Author.Tests.{eq-eqb, ne_eqb, le-leb, lt-leb, not-true, not-false}
 use lib.Dec.{eqb, leb}
 use lib.ListN.{get_or}
 use Rattle.lists.specs.Tells.{Tells}
-use Rattle.lists.proofs.Cases.{either_eq, no_both}
+use Rattle.lists.proofs.Cases.{either_eq}
 use Rattle.rules.specs.declared.Node.{Node}
 use Rattle.rules.specs.declared.Rule.{Rule}
-use Rattle.rules.specs.Formula.{Formula, both, neg, exists, has, pair, Pairing}
+use Rattle.rules.specs.Formula.{Formula}
 use Rattle.rules.specs.Table.{node_at, formula_at, Good}
 use Rattle.rules.specs.Rules.{formula_of, Taken}
-use Rattle.rules.proofs.Formulas.{good-child, formula-and, formula_not, formula_some, formula-has, some_child, not_child, by_atom}
+use Rattle.rules.proofs.Formulas.{formula-and, formula_not, formula_some, formula-has, some_child, not_child, by_atom}
 use Rattle.shape.specs.Shape.{flat?, height}
 use Rattle.shape.proofs.Shapes.{flat-height}
 use Rattle.moments.specs.Shape.{Heights}
-use Rattle.slip_form.specs.declared.Top.{Top}
 use Rattle.slip_form.specs.declared.Top.TheVariants.{At, Other}
 use Rattle.slip_form.specs.Form.{SlipForm}
-use Rattle.slip_form.specs.Chain.{some?, part_of, slip_form?, ChainAt, TopOf}
+use Rattle.slip_form.specs.Chain.{some?, part_of, slip_form?, TopOf}
 use Rattle.slip_form.proofs.Forms.{plain_part, form_tells}
 
 -- ── a node that is no "some" ──

@@ -18,7 +18,7 @@ use Rattle.logic.specs.Model.{Model}
 use Rattle.order.specs.declared.Order.{Order}
 use Rattle.row_table.specs.Truth.{truth, Fixed, TrueAt, FalseWithout, at}
 use Rattle.row_table.proofs.Marks.{at_fixed, bind-within}
-use Rattle.slip_search.specs.First.{Asked, serves, Least, of_ranks, RankFor}
+use Rattle.slip_search.specs.First.{serves, Least, of_ranks, RankFor}
 
 -- ── one question, at one moment ──
 pub asked_at : (M : Model) (f : Formula) (ρ : Binding) (all dom s : RunSet) (m : ℕ) (r : Bool) → Fixed ρ → m < 128

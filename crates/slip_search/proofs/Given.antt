@@ -1,14 +1,13 @@
 -- A chain of given runs: what each level keeps on the way down to the part below it.
-use Prim.Native.Nat.{ℕ, zero, suc, ◌+◌, ◌<◌, ◌≤◌}
-use mathlib.Core.Path.{◌≡◌, refl, sym, ap, subst, ◌∙◌}
-use mathlib.Core.Bool.{Bool, true, false}
+use Prim.Native.Nat.{ℕ, suc, ◌+◌, ◌<◌}
+use mathlib.Core.Path.{◌≡◌, refl, sym, ap, ◌∙◌}
+use mathlib.Core.Bool.{Bool, false}
 use mathlib.Core.List.{List, [], ◌∷◌}
 use native.Mathlib.Omega.{arith}
 use native.Mathlib.Numerals.{add-one}
 use lib.ListN.{length, get_or, drop}
 use lib.Seq.{drop-cons}
 use Rattle.lists.proofs.Cases.{no_both}
-use Rattle.trace.specs.declared.RunNo.{RunNo}
 use Rattle.rules.specs.declared.Node.{Node}
 use Rattle.rules.specs.Formula.{Formula, both, neg, exists, has, pair}
 use Rattle.rules.specs.Table.{node_at, formula_at}

@@ -2,16 +2,13 @@
 use Prim.Native.Nat.{ℕ, zero, suc, ◌+◌, ◌<◌, ◌≤◌}
 use mathlib.Core.Path.{◌≡◌, refl, sym, ap, ap₂, subst, ◌∙◌}
 use mathlib.Core.Bool.{Bool, true, false, ◌&&◌}
-use mathlib.Core.List.{List, [], ◌∷◌, ◌++◌, map, append_assoc}
+use mathlib.Core.List.{List, [], ◌∷◌, ◌++◌, append_assoc}
 use native.Mathlib.Omega.{arith}
-use native.Mathlib.Numerals.{add-one}
-use borrow.Author.Tests.{lt-ltb, ltb-true, le-leb, leb-true}
+use borrow.Author.Tests.{lt-ltb, ltb-true, le-leb}
 use lib.Dec.{ltb, leb}
-use lib.ListN.{length, get_or, set, take, replicate, length-set}
-use lib.Seq.{take-suc-set}
-use Rattle.lists.proofs.Cases.{either_bool, either_eq, no_both, and_left, and_right}
+use lib.ListN.{length, get_or, set, replicate, length-set}
+use Rattle.lists.proofs.Cases.{either_bool, no_both, and_left, and_right}
 use Rattle.lists.proofs.Lists.{append-nil}
-use Rattle.trace.specs.declared.RunNo.{RunNo}
 use Rattle.rules.specs.declared.Node.{Node}
 use Rattle.rules.specs.Formula.{Formula, exists}
 use Rattle.rules.specs.Table.{node_at, formula_at, Good}
@@ -21,7 +18,7 @@ use Rattle.logic.specs.Model.{Model, eval}
 use Rattle.lists.proofs.Below.{found_yes, found_at}
 use Rattle.shape.specs.Shape.{height}
 use Rattle.row_table.specs.declared.Bindings.{Bindings}
-use Rattle.row_table.specs.Ranks.{binding, rank}
+use Rattle.row_table.specs.Ranks.{binding}
 use Rattle.moments.specs.Ready.{Ready}
 use Rattle.row_table.specs.Truth.{truth, at_moment, Fixed}
 use Rattle.moments.proofs.Ready.{some_ready, rebound_ready}
@@ -30,7 +27,6 @@ use Rattle.slip_search.proofs.Asked.{fixed_bound}
 use Rattle.slip_form.specs.declared.Slip.{Slip}
 use Rattle.slip_form.specs.Slips.{run_no, slip_runs}
 use Rattle.slip_form.proofs.Descent.{not_some}
-use Rattle.slip_search.specs.declared.Sought.{Sought}
 use Rattle.slip_form.specs.Chain.{some?}
 use Rattle.slip_search.specs.First.{Asked, serves, Least, First, of_ranks, AsksOf, Seeks, Tidy}
 use Rattle.slip_search.proofs.Places.{tidy_none, slip_more, tidy_more}

@@ -1,9 +1,8 @@
 -- How the code works, not what it means.
 -- The first slip, level by level: each run is the first that leaves the rest of the chain true. And whether a chain is
 -- true of given runs.
-use Rattle.std.specs.Prelude.{ℕ, ◌+◌, ◌<◌, ◌≤◌, ◌≡◌, Bool, true, false, ◌&&◌, List, [], ◌∷◌, ltb, length, get_or}
+use Rattle.std.specs.Prelude.{ℕ, ◌+◌, ◌<◌, ◌≤◌, ◌≡◌, Bool, true, false, ◌&&◌, List, [], ◌∷◌, ltb, get_or}
 use Rattle.lists.specs.Limits.{max_runs}
-use Rattle.rules.specs.Limits.{max_nested}
 use Rattle.rules.specs.Formula.{Formula, both, neg, exists, has, pair}
 use Rattle.logic.specs.Satisfies.{Binding, bind}
 use Rattle.logic.specs.Model.{Model, eval}

@@ -1,37 +1,33 @@
 -- The chain of a rule that has the form: what the search needs there, and what its answers say of the runs of a record.
-use Prim.Native.Nat.{ℕ, suc, ◌+◌, ◌-◌, ◌<◌, ◌≤◌, max}
+use Prim.Native.Nat.{ℕ, suc, ◌+◌, ◌-◌, ◌<◌, ◌≤◌}
 use mathlib.Core.Path.{◌≡◌, refl, sym, ap, subst, ◌∙◌}
-use mathlib.Core.Bool.{Bool, true, false, not, cond}
+use mathlib.Core.Bool.{Bool, true, false, cond}
 use mathlib.Core.List.{List, [], ◌∷◌}
 use native.Mathlib.Omega.{arith}
 use borrow.Author.Tests.{leb-true}
-use lib.Dec.{leb}
 use lib.ListN.{length, get_or}
-use Rattle.lists.specs.Tells.{Tells}
-use Rattle.lists.proofs.Cases.{either_bool, no_both}
+use Rattle.lists.proofs.Cases.{no_both}
 use Rattle.trace.specs.declared.Record.{Record}
 use Rattle.trace.specs.Trace.{Trace, Accepted}
-use Rattle.trace.specs.Record.{record_of, Valid}
+use Rattle.trace.specs.Record.{record_of}
 use Rattle.relations.specs.Runs.{FinishedRun}
 use Rattle.rules.specs.declared.Rule.{Rule}
-use Rattle.rules.specs.Formula.{Formula, neg, no_scope, scoped, shallow}
+use Rattle.rules.specs.Formula.{Formula, neg, no_scope, scoped}
 use Rattle.rules.specs.Table.{node_at, formula_at}
 use Rattle.rules.specs.Rules.{formula_of, Taken}
 use Rattle.rules.proofs.Formulas.{formula_not}
-use Rattle.rules.proofs.Scopes.{shallow-neg}
 use Rattle.logic.specs.Model.{Model, eval, model_of}
 use Rattle.shape.specs.Shape.{flat?, height}
-use Rattle.shape.proofs.Shapes.{shallow-height, flat-height}
-use Rattle.row_table.specs.Rows.{table_words, RowsOf}
+use Rattle.shape.proofs.Shapes.{flat-height}
+use Rattle.row_table.specs.Rows.{RowsOf}
 use Rattle.row_table.specs.Ranks.{binding}
 use Rattle.moments.specs.Ready.{Ready}
 use Rattle.moments.proofs.Ready.{not_ready}
 use Rattle.rows.specs.RankModel.{rank_model}
-use Rattle.timeline.specs.Root.{Shaped}
 use Rattle.timeline.proofs.Root.{from_zero, root_ready}
 use Rattle.slip_form.specs.declared.Slip.{Slip}
 use Rattle.slip_form.specs.Form.{some_of, SlipForm}
-use Rattle.slip_form.specs.Slips.{bind_each, unbound, Each, Fits, Passes, slip_runs}
+use Rattle.slip_form.specs.Slips.{bind_each, unbound, Each, Fits, slip_runs}
 use Rattle.slip_form.specs.Chain.{ChainAt}
 use Rattle.slip_form.proofs.Forms.{without-flat}
 use Rattle.slip_form.proofs.Descent.{top_low}
@@ -41,7 +37,6 @@ use Rattle.slip_search.proofs.Places.{length-numbers}
 use Rattle.slips.specs.declared.Prepared.{Prepared}
 use Rattle.slips.specs.declared.Found.TheVariants as Found
 use Rattle.slips.specs.declared.Passing.{Passing}
-use Rattle.slips.specs.declared.Passing.TheVariants as Passing
 use Rattle.slips.specs.Answers.{with_slip, without_slip, FindsIn, ReadsIn}
 use Rattle.slips.specs.Parts.{Ranked, PreparedFor, found_by, FindsOf, ReadsOf}
 use Rattle.slips.proofs.Ranked.{first_of_runs, truth_same, asks_of, true_of_runs, all_finished, all_ranked}

@@ -1,5 +1,5 @@
 -- What the first slip means, by run numbers: it passes, no slip that passes comes before it, and where the chain is false none passes.
-use Prim.Native.Nat.{ℕ, zero, suc, ◌<◌, ◌≤◌}
+use Prim.Native.Nat.{ℕ, zero, suc, ◌<◌}
 use mathlib.Core.Path.{◌≡◌, refl, sym, ap, ap₂, subst, ◌∙◌}
 use mathlib.Core.Logic.{◌⊎◌, inl, inr, ⊎_elim}
 use mathlib.Core.Bool.{Bool, true, false, ◌&&◌, cond}
@@ -13,7 +13,7 @@ use Rattle.trace.specs.Trace.{Trace, run_at, end_line}
 use Rattle.relations.specs.Runs.{FinishedRun, finished?}
 use Rattle.rules.specs.Formula.{Formula, exists}
 use Rattle.logic.specs.Satisfies.{Binding, bind, Satisfies}
-use Rattle.logic.specs.Model.{Model, eval, model_of}
+use Rattle.logic.specs.Model.{eval, model_of}
 use Rattle.logic.proofs.Decides.{eval_decides}
 use Rattle.slip_form.specs.Form.{some_of}
 use Rattle.slip_form.specs.Slips.{bind_each, Each, Before}

@@ -1,19 +1,19 @@
 -- From ranks to run numbers: the first slip by ranks is the first slip of the trace.
-use Prim.Native.Nat.{ℕ, zero, suc, ◌+◌, ◌<◌, ◌≤◌}
+use Prim.Native.Nat.{ℕ, ◌+◌, ◌<◌, ◌≤◌}
 use mathlib.Core.Path.{◌≡◌, refl, sym, ap, ap₂, subst, ◌∙◌}
 use mathlib.Core.Bool.{Bool, true, false, ◌&&◌, ◌||◌, cond}
 use mathlib.Core.List.{List, [], ◌∷◌}
 use native.Mathlib.Omega.{arith}
-use borrow.Author.Tests.{lt-ltb, le-ltb, ltb-true, ltb-false, le-leb, leb-true}
-use lib.Dec.{eqb, ltb, leb}
+use borrow.Author.Tests.{lt-ltb, le-ltb, ltb-true, le-leb}
+use lib.Dec.{eqb, ltb}
 use lib.ListN.{length, get_or}
-use Rattle.lists.proofs.Cases.{either_eq, either_lt, either_bool, no_both, and_left, and_right}
+use Rattle.lists.proofs.Cases.{either_lt, no_both, and_left, and_right}
 use Rattle.trace.specs.Trace.{Trace, run_at, end_line, Accepted}
 use Rattle.trace.proofs.Bounds.{accepted-bounded}
 use Rattle.relations.specs.Runs.{FinishedRun, finished?}
 use Rattle.rules.specs.Formula.{Formula, both, neg, exists, has, pair, Scope, enter, scoped}
 use Rattle.logic.specs.Satisfies.{Binding, bind, between}
-use Rattle.logic.specs.Model.{Model, eval, model_of, has_label?, holds_between?}
+use Rattle.logic.specs.Model.{eval, model_of, has_label?, holds_between?}
 use Rattle.order.specs.declared.Order.{Order}
 use Rattle.order.specs.Order.{order_to, finish_order, rank_of}
 use Rattle.order.specs.Marks.{OrderHeld}
@@ -24,7 +24,7 @@ use Rattle.row_table.specs.Rows.{RowsOf}
 use Rattle.row_table.proofs.Truth.{same_truth}
 use Rattle.rows.specs.RankModel.{rank_run, rank_model}
 use Rattle.rows.proofs.Meaning.{any_default}
-use Rattle.timeline.proofs.Mirrored.{FinishedWith, Mirrors, mirrored_scoped}
+use Rattle.timeline.proofs.Mirrored.{Mirrors, mirrored_scoped}
 use Rattle.slip_form.specs.Slips.{Each}
 use Rattle.slip_search.specs.First.{Asked, serves, Least, First, of_runs, of_ranks, true_for, RanksOf, AsksOf}
 

@@ -1,16 +1,16 @@
 -- From the first slip, or that none passes, to what the finder's answer says; and from the truth of given runs to what the reader's says.
-use Prim.Native.Nat.{ℕ, ◌≤◌}
-use mathlib.Core.Path.{◌≡◌, refl, sym, ap, ap₂, subst, ◌∙◌}
+use Prim.Native.Nat.{ℕ}
+use mathlib.Core.Path.{◌≡◌, refl, sym, ap, subst, ◌∙◌}
 use mathlib.Core.Logic.{◌↔◌, ⊎_elim}
 use mathlib.Core.Bool.{Bool, true, false, ◌&&◌, cond}
 use mathlib.Core.List.{List, [], ◌∷◌}
 use native.Mathlib.Omega.{arith}
-use lib.Dec.{eqb, ltb}
+use lib.Dec.{ltb}
 use lib.ListN.{length}
 use Rattle.lists.specs.Lists.{all?}
 use Rattle.lists.specs.Tells.{Tells}
 use Rattle.lists.proofs.Cases.{either_bool, no_both}
-use Rattle.lists.proofs.Tells.{tell_no, tell_yes, tell_by}
+use Rattle.lists.proofs.Tells.{tell_yes, tell_by}
 use Rattle.trace.specs.Trace.{Trace}
 use Rattle.relations.specs.Runs.{FinishedRun, finished?}
 use Rattle.rules.specs.Formula.{Formula}
@@ -19,14 +19,13 @@ use Rattle.logic.specs.Model.{eval, model_of}
 use Rattle.logic.proofs.Decides.{eval_decides, tell_both, tell_eq}
 use Rattle.slip_form.specs.declared.Slip.{Slip}
 use Rattle.slip_form.specs.Form.{some_of, SlipForm}
-use Rattle.slip_form.specs.Slips.{bind_each, unbound, Each, Fits, Passes, Before, slip_runs, slip_of, FirstSlip}
+use Rattle.slip_form.specs.Slips.{bind_each, unbound, Each, Fits, Passes, slip_runs, slip_of, FirstSlip}
 use Rattle.slip_form.specs.Chain.{some?}
 use Rattle.slip_form.proofs.Forms.{without_some}
 use Rattle.slip_search.specs.First.{First, of_runs, Tidy}
 use Rattle.slips.specs.declared.Found.TheVariants as Found
 use Rattle.slips.specs.declared.Finding.{Finding}
 use Rattle.slips.specs.declared.Passing.{Passing}
-use Rattle.slips.specs.declared.Passing.TheVariants as Passing
 use Rattle.slips.specs.Answers.{with_slip, without_slip, first_runs, found_in, fits?, passing_in, FindsIn, ReadsIn}
 use Rattle.slips.proofs.Meaning.{PassesFrom, either_before, holds_of, may_of, run_of, passes_satisfies, satisfies_passes, first_passes, first_earliest, first_is}
 

@@ -4,7 +4,6 @@ use mathlib.Core.Path.{◌≡◌, refl, ap}
 use mathlib.Core.List.{List}
 use lib.ListN.{length}
 use Rattle.trace.specs.declared.Record.{Record}
-use Rattle.trace.specs.Record.{Valid}
 use Rattle.rules.specs.declared.Rule.{Rule}
 use Rattle.rules.specs.Rules.{Taken}
 use Rattle.order.specs.declared.Order.{Order}
@@ -14,7 +13,6 @@ use Rattle.rows.specs.ByRank.{RowsFilled}
 use Rattle.timeline.specs.Root.{Shaped}
 use Rattle.timeline.proofs.Answer.{Found, order_holds, wanted_in}
 use Rattle.slip_search.specs.First.{RanksOf}
-use Rattle.slips.specs.declared.Prepared.{Prepared}
 use Rattle.slips.specs.Parts.{PreparedFor}
 
 pub prepared_for : (file : List ℕ) (x : Rule) (r : Record) (o : Order) (heights frees ranks wanted old new : List ℕ) → Taken file x

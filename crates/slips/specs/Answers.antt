@@ -16,10 +16,8 @@ use Rattle.slip_form.specs.declared.Slip.{Slip}
 use Rattle.slip_form.specs.Form.{some_of, SlipForm}
 use Rattle.slip_form.specs.Slips.{bind_each, unbound, slip_runs, slip_of, Fits, Passes, FirstSlip}
 use Rattle.slips.specs.declared.Found.{Found}
-use Rattle.slips.specs.declared.Found.TheVariants as Found
 use Rattle.slips.specs.declared.Finding.{Finding}
 use Rattle.slips.specs.declared.Passing.{Passing}
-use Rattle.slips.specs.declared.Passing.TheVariants as Passing
 
 -- the answer with a slip; without one it is the slip of no runs
 abbrev pub with_slip : Slip → Finding

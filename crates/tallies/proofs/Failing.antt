@@ -13,7 +13,6 @@ use Rattle.trace.proofs.Grown.{accepted_lines}
 use Rattle.rules.specs.declared.Rule.{Rule}
 use Rattle.rules.specs.Rules.{formula_of}
 use Rattle.logic.specs.declared.Verdict.{Verdict}
-use Rattle.logic.specs.declared.Verdict.TheVariants as Verdict
 use Rattle.logic.specs.Verdict.{verdict_of}
 use Rattle.reading.specs.Reading.{by_answer}
 use Rattle.trace.specs.Orderly.{finished_runs}

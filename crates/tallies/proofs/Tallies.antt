@@ -1,9 +1,9 @@
 -- The counts of a record are those of its trace: a run counts as finished if its end line is not 0, and the loop over the runs adds
 -- them up from the front.
 use Prim.Native.Nat.{ℕ, ◌+◌, ◌-◌, ◌<◌, ◌≤◌}
-use mathlib.Core.Path.{◌≡◌, refl, ap, sym, ◌∙◌}
-use mathlib.Core.Bool.{Bool, true, false, cond}
-use mathlib.Core.List.{List, [], ◌∷◌}
+use mathlib.Core.Path.{◌≡◌, ap, sym, ◌∙◌}
+use mathlib.Core.Bool.{Bool, true, false}
+use mathlib.Core.List.{◌∷◌}
 use native.Mathlib.Omega.{arith}
 use native.Mathlib.Numerals.{add-one}
 use lib.Dec.{eqb, leb}
@@ -21,7 +21,6 @@ use Rattle.trace.specs.Orderly.{finished_runs}
 use Rattle.trace.proofs.Finished.{finished_few}
 use Rattle.pairs.proofs.Pairs.{length_held}
 use Rattle.logic.specs.declared.Verdict.{Verdict}
-use Rattle.logic.specs.declared.Verdict.TheVariants as Verdict
 use Rattle.single.specs.declared.Outcome.TheVariants.{Holds, Fails, Refused}
 use Rattle.single.specs.declared.Checked.{Checked}
 use Rattle.tallies.specs.declared.Tally.{Tally}

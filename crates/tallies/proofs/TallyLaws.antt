@@ -15,7 +15,7 @@ use Rattle.lines.specs.Line.{event_of}
 use Rattle.lines.specs.Log.{lines_of}
 use Rattle.trace.specs.declared.Record.{Record}
 use Rattle.trace.specs.Trace.{Trace, Answer, next, refused, Accepted, step}
-use Rattle.trace.proofs.Taken.{line_lines, by_answer_lem, line_taken}
+use Rattle.trace.proofs.Taken.{line_lines, line_taken}
 use Rattle.trace.proofs.Finished.{CountsMore, begin_counts, end_counts}
 use Rattle.trace.proofs.Grown.{taken_grows}
 use Rattle.trace.proofs.Induction.{accepted-keeps}
@@ -23,7 +23,6 @@ use Rattle.pairs.specs.declared.Layout.{Layout}
 use Rattle.pairs.specs.Layout.{work_size}
 use Rattle.rules.specs.declared.Rule.{Rule}
 use Rattle.rules.specs.declared.RuleRead.{RuleRead}
-use Rattle.rules.specs.declared.RuleRead.TheVariants as RuleRead
 use Rattle.rules.specs.Rules.{rule_of, formula_of}
 use Rattle.rules.proofs.Rules.{reads_rule}
 use Rattle.logic.specs.declared.Verdict.{Verdict}

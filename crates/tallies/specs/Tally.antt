@@ -4,9 +4,8 @@ use Rattle.std.proofs.Math.Option.{Option, none, some}
 use Rattle.lines.specs.Event.{Event, begins, ends, faulty}
 use Rattle.lines.specs.Line.{event_of}
 use Rattle.lines.specs.Log.{lines_of}
-use Rattle.trace.specs.declared.Run.{Run}
 use Rattle.trace.specs.declared.Record.{Record}
-use Rattle.trace.specs.Trace.{Trace, Answer, next, refused, no_trace, end_line, Accepted, step}
+use Rattle.trace.specs.Trace.{Trace, Answer, next, refused, no_trace, Accepted, step}
 use Rattle.trace.specs.Orderly.{finished_runs}
 use Rattle.trace.specs.Steps.{held}
 use Rattle.trace.specs.Record.{record_of}
@@ -17,7 +16,6 @@ use Rattle.rules.specs.declared.Rule.{Rule}
 use Rattle.rules.specs.declared.RuleRead.TheVariants as RuleRead
 use Rattle.rules.specs.Rules.{rule_of, formula_of}
 use Rattle.logic.specs.declared.Verdict.{Verdict}
-use Rattle.logic.specs.declared.Verdict.TheVariants as Verdict
 use Rattle.logic.specs.Verdict.{verdict_of}
 use Rattle.single.specs.declared.Outcome.TheVariants.{Refused}
 use Rattle.single.specs.declared.Checked.{Checked}

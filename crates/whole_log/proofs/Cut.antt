@@ -15,7 +15,6 @@ use Rattle.lines.specs.Event.{faulty}
 use Rattle.lines.specs.Line.{event_of}
 use Rattle.lines.specs.Log.{lines_of, scan, next_line}
 use Rattle.lines.specs.declared.Next.{Next}
-use Rattle.lines.specs.declared.Next.TheVariants as Next
 use Rattle.lines.proofs.Log.{Handed, line_is_handed_out, done_means_no_lines, Spoilt, refused_line_is_faulty}
 use Rattle.trace.specs.Trace.{Trace, no_trace, Accepted}
 use Rattle.trace.proofs.Grown.{taken_grows, no_bytes}
@@ -25,7 +24,6 @@ use Rattle.pairs.specs.Layout.{work_size}
 use Rattle.pairs.specs.Pairs.{work_of}
 use Rattle.rules.specs.declared.Rule.{Rule}
 use Rattle.rules.specs.declared.RuleRead.{RuleRead}
-use Rattle.rules.specs.declared.RuleRead.TheVariants as RuleRead
 use Rattle.rules.specs.Rules.{rule_of, formula_of}
 use Rattle.logic.specs.Verdict.{verdict_byte, verdict_of}
 use Rattle.reading.specs.declared.Ending.TheVariants.{Refused}

@@ -13,9 +13,7 @@ use Rattle.lines.specs.Log.{lines_of}
 use Rattle.trace.specs.Trace.{Trace, next, no_trace, read, steps, Accepted}
 use Rattle.pairs.specs.declared.Layout.{Layout}
 use Rattle.pairs.specs.Layout.{work_size}
-use Rattle.rules.specs.declared.Rule.{Rule}
 use Rattle.rules.specs.declared.RuleRead.{RuleRead}
-use Rattle.rules.specs.declared.RuleRead.TheVariants as RuleRead
 use Rattle.rules.specs.Rules.{rule_of}
 use Rattle.single.specs.Line.{with_rule}
 use Rattle.whole_log.specs.Log.{not_read, lines_from, log_of}

@@ -1,10 +1,6 @@
 -- The loop's invariant: the failing ones among the bytes passed are counted.
-use Prim.Native.Nat.{◌-◌}
 use borrow.Author.Rules.{rules}
 use Rattle.report.proofs.Pieces.{fails_none, fails_next, fails_all}
-use Rattle.report.proofs.count_failing.Reads as reads
-use Rattle.report.proofs.count_failing.Lts as lts
-use Rattle.report.proofs.fails.Reads as fails-reads
 use Rattle.report.proofs.count_failing.Goals as goal
 
 pub loop-i-init : goal.loop-i-init

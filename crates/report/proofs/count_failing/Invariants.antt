@@ -2,9 +2,6 @@
 use Prim.Native.Nat.{◌-◌, ◌≤◌}
 use mathlib.Core.Path.{◌≡◌}
 use Rattle.report.specs.RecordText.{fails_to}
-use Rattle.report.proofs.count_failing.Reads as reads
-use Rattle.report.proofs.count_failing.Lts as lts
-use Rattle.report.proofs.fails.Reads as fails-reads
 use Rattle.report.proofs.count_failing.Given as goal
 
 abbrev pub invariant-loop-i : goal.invariant-loop-i

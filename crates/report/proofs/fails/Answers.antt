@@ -1,7 +1,5 @@
 use borrow.Author.Rules.{rules}
 use Rattle.report.proofs.Pieces.{fails_not, fails-once}
-use Rattle.report.proofs.fails.Reads as reads
-use Rattle.report.proofs.fails.Lts as lts
 use Rattle.report.proofs.fails.Goals as goal
 
 pub returns-then-verdict-eq1 : goal.returns-then-verdict-eq1

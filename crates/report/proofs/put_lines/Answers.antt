@@ -1,11 +1,7 @@
 -- The loop's invariant: the lines of the verdict bytes passed are written, each of at most 6 bytes.
-use Prim.Native.Nat.{◌-◌}
 use mathlib.Core.Path.{refl}
 use borrow.Author.Rules.{rules}
 use Rattle.report.proofs.Pieces.{lines_none, lines_next, lines_all}
-use Rattle.report.proofs.put_lines.Reads as reads
-use Rattle.report.proofs.put_lines.Lts as lts
-use Rattle.text_pieces.proofs.put_line.Reads as put-line-reads
 use Rattle.report.proofs.put_lines.Goals as goal
 
 pub loop-i-init : goal.loop-i-init

@@ -4,9 +4,6 @@ use mathlib.Core.Path.{◌≡◌}
 use lib.ListN.{length}
 use Rattle.text_pieces.specs.Writing.{Writes}
 use Rattle.report.specs.RecordText.{lines_to}
-use Rattle.report.proofs.put_lines.Reads as reads
-use Rattle.report.proofs.put_lines.Lts as lts
-use Rattle.text_pieces.proofs.put_line.Reads as put-line-reads
 use Rattle.report.proofs.put_lines.Given as goal
 
 abbrev pub invariant-loop-i : goal.invariant-loop-i

@@ -1,12 +1,5 @@
 use Rattle.report.proofs.Record.{lines_few, runs_few, tally_low, printed-unread, printed_tally}
 use borrow.Author.Rules.{rules}
-use Rattle.report.proofs.put_record.Reads as reads
-use Rattle.report.proofs.put_record.Lts as lts
-use Rattle.report.proofs.count_failing.Reads as count-failing-reads
-use Rattle.report.proofs.put_lines.Reads as put-lines-reads
-use Rattle.text_pieces.proofs.is_unread.Reads as is-unread-reads
-use Rattle.text_pieces.proofs.put_ending.Reads as put-ending-reads
-use Rattle.report.proofs.put_tally.Reads as put-tally-reads
 use Rattle.report.proofs.put_record.Goals as goal
 
 pub put_lines-taken-requires : goal.put_lines-taken-requires

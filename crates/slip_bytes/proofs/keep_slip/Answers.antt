@@ -2,10 +2,6 @@
 use Prim.Native.Nat.{ℕ}
 use mathlib.Core.Path.{ap₂}
 use mathlib.Core.List.{List}
-use Rattle.slip_bytes.proofs.keep_slip.Reads as reads
-use Rattle.slip_bytes.proofs.keep_slip.Lts as lts
-use Rattle.slip_bytes.proofs.found_number.Reads as found-number-reads
-use Rattle.slip_bytes.proofs.put_runs.Reads as put-runs-reads
 use Rattle.slip_bytes.proofs.keep_slip.Goals as goal
 
 pub returns : goal.returns

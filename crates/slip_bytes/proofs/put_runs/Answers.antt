@@ -1,11 +1,8 @@
 -- The first runs stand in the first bytes, and the other bytes are as they were.
-use Prim.Native.Nat.{◌-◌}
 use mathlib.Core.Path.{refl, ◌∙◌}
 use native.Mathlib.Omega.{arith}
 use lib.ListN.{length-set}
 use Rattle.slip_bytes.proofs.Places.{put_next, put_all}
-use Rattle.slip_bytes.proofs.put_runs.Reads as reads
-use Rattle.slip_bytes.proofs.put_runs.Lts as lts
 use Rattle.slip_bytes.proofs.put_runs.Goals as goal
 
 pub loop-i-init : goal.loop-i-init

@@ -1,11 +1,9 @@
 -- The first runs stand in the first bytes, and the other bytes are as they were.
-use Prim.Native.Nat.{◌-◌, ◌≤◌, ◌+◌}
+use Prim.Native.Nat.{◌-◌, ◌≤◌}
 use mathlib.Core.Path.{◌≡◌}
 use mathlib.Core.List.{◌++◌}
 use lib.ListN.{length, drop}
 use Rattle.slip_form.specs.Slips.{numbers}
-use Rattle.slip_bytes.proofs.put_runs.Reads as reads
-use Rattle.slip_bytes.proofs.put_runs.Lts as lts
 use Rattle.slip_bytes.proofs.put_runs.Given as goal
 
 abbrev pub invariant-loop-i : goal.invariant-loop-i

@@ -1,12 +1,9 @@
 -- The first bytes stand in the first places, and the other places are 0.
-use Prim.Native.Nat.{◌-◌}
 use mathlib.Core.Path.{refl}
 use native.Mathlib.Omega.{arith}
 use lib.ListN.{length}
 use borrow.Author.Tests.{ltb-true, ltb-false}
 use Rattle.slip_bytes.proofs.Places.{places_none, place_next, place_all, place_four, slip_is}
-use Rattle.slip_bytes.proofs.slip_from.Reads as reads
-use Rattle.slip_bytes.proofs.slip_from.Lts as lts
 use Rattle.slip_bytes.proofs.slip_from.Goals as goal
 
 pub loop-i-init : goal.loop-i-init

@@ -3,8 +3,6 @@ use Prim.Native.Nat.{◌-◌, ◌≤◌}
 use mathlib.Core.Path.{◌≡◌}
 use lib.ListN.{length}
 use Rattle.slip_bytes.proofs.Places.{placed}
-use Rattle.slip_bytes.proofs.slip_from.Reads as reads
-use Rattle.slip_bytes.proofs.slip_from.Lts as lts
 use Rattle.slip_bytes.proofs.slip_from.Given as goal
 
 abbrev pub invariant-loop-i : goal.invariant-loop-i

@@ -5,11 +5,6 @@ use Rattle.rules.proofs.Formulas.{good_room}
 use Rattle.timeline.proofs.Root.{heights_at_root}
 use Rattle.slip_form.proofs.Descent.{not_not, top_low, top_good, no_chain, other_chain, top_chain}
 use borrow.Author.Rules.{rules}
-use Rattle.slip_form.proofs.chain_top.Reads as reads
-use Rattle.slip_form.proofs.chain_top.Lts as lts
-use Rattle.rules.proofs.table.node_at.Reads as node-at-reads
-use Rattle.shape.proofs.heights.Reads as heights-reads
-use Rattle.slip_form.proofs.is_chain.Reads as is-chain-reads
 use Rattle.slip_form.proofs.chain_top.Goals as goal
 
 pub returns-then-x-ne2 : goal.returns-then-x-ne2

@@ -3,9 +3,6 @@ use mathlib.Core.Path.{refl}
 use native.Mathlib.Omega.{arith}
 use Rattle.rules.proofs.Formulas.{good_room}
 use Rattle.slip_form.proofs.Descent.{child_low, child-good, down_next, down_end}
-use Rattle.slip_form.proofs.is_chain.Reads as reads
-use Rattle.slip_form.proofs.is_chain.Lts as lts
-use Rattle.rules.proofs.table.node_at.Reads as node-at-reads
 use Rattle.slip_form.proofs.is_chain.Goals as goal
 
 pub node_at-x-requires : goal.node_at-x-requires

@@ -1,7 +1,4 @@
 use Rattle.slip_form.proofs.Descent.{Down}
-use Rattle.slip_form.proofs.is_chain.Reads as reads
-use Rattle.slip_form.proofs.is_chain.Lts as lts
-use Rattle.rules.proofs.table.node_at.Reads as node-at-reads
 use Rattle.slip_form.proofs.is_chain.Given as goal
 
 abbrev pub invariant-loop-x : goal.invariant-loop-x

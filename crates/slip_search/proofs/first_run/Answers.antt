@@ -1,17 +1,10 @@
 -- The runs before this one do not serve: each has no rank, is left out by the evaluator, or was asked for.
-use Prim.Native.Nat.{◌-◌}
 use mathlib.Core.Path.{sym, ◌∙◌}
 use native.Mathlib.Omega.{arith}
 use Rattle.rules.specs.Table.{formula_at}
 use Rattle.row_table.specs.Ranks.{binding}
 use Rattle.moments.proofs.Ready.{rebound_ready}
 use Rattle.slip_search.proofs.Asked.{kept_low, left_out, not_so, is_so, one_further, least_here, least_none, fixed_bound}
-use Rattle.slip_search.proofs.first_run.Reads as reads
-use Rattle.slip_search.proofs.first_run.Lts as lts
-use Rattle.moments.proofs.times.kept.Reads as kept-reads
-use Rattle.row_table.proofs.ranks.rebound.Reads as rebound-reads
-use Rattle.slip_search.proofs.holds_at.Reads as holds-at-reads
-use Rattle.slip_search.proofs.is_kept.Reads as is-kept-reads
 use Rattle.slip_search.proofs.first_run.Goals as goal
 use Rattle.slip_search.proofs.first_run.Goals.{then-is_kept+else-holds_at, else-is_kept}
 

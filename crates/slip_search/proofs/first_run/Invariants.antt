@@ -7,12 +7,6 @@ use Rattle.logic.specs.Model.{Model}
 use Rattle.row_table.specs.Rows.{RowsOf}
 use Rattle.row_table.specs.Ranks.{binding}
 use Rattle.slip_search.specs.First.{serves, of_ranks}
-use Rattle.slip_search.proofs.first_run.Reads as reads
-use Rattle.slip_search.proofs.first_run.Lts as lts
-use Rattle.moments.proofs.times.kept.Reads as kept-reads
-use Rattle.row_table.proofs.ranks.rebound.Reads as rebound-reads
-use Rattle.slip_search.proofs.holds_at.Reads as holds-at-reads
-use Rattle.slip_search.proofs.is_kept.Reads as is-kept-reads
 use Rattle.slip_search.proofs.first_run.Given as goal
 
 abbrev pub invariant-loop-k : goal.invariant-loop-k

@@ -3,9 +3,6 @@ use mathlib.Core.Path.{sym, ap, ◌∙◌}
 use mathlib.Core.Bool.{Bool, ◌&&◌}
 use borrow.Author.Tests.{lt-ltb, le-ltb}
 use Rattle.sets.specs.Sets.{mem}
-use Rattle.slip_search.proofs.is_kept.Reads as reads
-use Rattle.slip_search.proofs.is_kept.Lts as lts
-use Rattle.sets.proofs.has.Reads as has-reads
 use Rattle.slip_search.proofs.is_kept.Goals as goal
 
 pub returns-then-i-runs : goal.returns-then-i-runs

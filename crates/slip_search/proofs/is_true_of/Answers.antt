@@ -1,13 +1,7 @@
 -- On the way down the chain the rest of it, of the rest of the runs, has the truth value of the whole, of all runs (`Going`).
-use Prim.Native.Nat.{◌-◌}
 use native.Mathlib.Omega.{arith}
 use Rattle.rules.proofs.Formulas.{good_room}
 use Rattle.slip_search.proofs.Given.{going_start, place_low, child_ready, variable_low, run_ranked, going_next, going_end}
-use Rattle.slip_search.proofs.is_true_of.Reads as reads
-use Rattle.slip_search.proofs.is_true_of.Lts as lts
-use Rattle.row_table.proofs.ranks.rebound.Reads as rebound-reads
-use Rattle.rules.proofs.table.node_at.Reads as node-at-reads
-use Rattle.slip_search.proofs.holds_at.Reads as holds-at-reads
 use Rattle.slip_search.proofs.is_true_of.Goals as goal
 
 pub node_at-x-requires : goal.node_at-x-requires

@@ -1,11 +1,5 @@
 -- On the way down the chain the rest of it, of the rest of the runs, has the truth value of the whole, of all runs (`Going`).
-use Prim.Native.Nat.{◌-◌}
 use Rattle.slip_search.proofs.Given.{Going}
-use Rattle.slip_search.proofs.is_true_of.Reads as reads
-use Rattle.slip_search.proofs.is_true_of.Lts as lts
-use Rattle.row_table.proofs.ranks.rebound.Reads as rebound-reads
-use Rattle.rules.proofs.table.node_at.Reads as node-at-reads
-use Rattle.slip_search.proofs.holds_at.Reads as holds-at-reads
 use Rattle.slip_search.proofs.is_true_of.Given as goal
 
 abbrev pub invariant-loop-x : goal.invariant-loop-x

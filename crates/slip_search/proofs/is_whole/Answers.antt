@@ -1,13 +1,11 @@
 -- The runs looked at so far all have a rank; the first without one, or another count, is what keeps the slip from being whole.
-use Prim.Native.Nat.{ℕ, ◌-◌, ◌<◌}
+use Prim.Native.Nat.{ℕ, ◌<◌}
 use mathlib.Core.Path.{◌≡◌, subst}
 use native.Mathlib.Omega.{arith}
 use lib.ListN.{get_or}
 use Rattle.lists.proofs.Tells.{tell_no, tell_yes}
 use Rattle.slip_form.specs.Slips.{Each, run_no, numbers}
 use Rattle.slip_search.proofs.Places.{each_at, each_more, each_none}
-use Rattle.slip_search.proofs.is_whole.Reads as reads
-use Rattle.slip_search.proofs.is_whole.Lts as lts
 use Rattle.slip_search.proofs.is_whole.Goals as goal
 
 pub returns-then-slip-n : goal.returns-then-slip-n

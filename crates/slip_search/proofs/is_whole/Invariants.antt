@@ -2,8 +2,6 @@
 use Prim.Native.Nat.{◌-◌, ◌≤◌, ◌<◌}
 use lib.ListN.{get_or}
 use Rattle.slip_form.specs.Slips.{Each, numbers}
-use Rattle.slip_search.proofs.is_whole.Reads as reads
-use Rattle.slip_search.proofs.is_whole.Lts as lts
 use Rattle.slip_search.proofs.is_whole.Given as goal
 
 abbrev pub invariant-loop-i : goal.invariant-loop-i

@@ -1,12 +1,10 @@
-use Prim.Native.Nat.{ℕ, ◌-◌, ◌<◌}
+use Prim.Native.Nat.{ℕ, ◌<◌}
 use mathlib.Core.Path.{◌≡◌, refl, subst}
 use lib.ListN.{get_or}
 use borrow.Author.Rules.{rules}
 use native.Mathlib.Omega.{arith}
 use Rattle.slip_search.proofs.Asked.{rank_more, rank_none}
 use Rattle.slip_search.specs.First.{RankFor}
-use Rattle.slip_search.proofs.ranks_of.Reads as reads
-use Rattle.slip_search.proofs.ranks_of.Lts as lts
 use Rattle.slip_search.proofs.ranks_of.Goals as goal
 
 pub loop-i-init : goal.loop-i-init

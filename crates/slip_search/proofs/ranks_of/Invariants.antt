@@ -2,8 +2,6 @@ use Prim.Native.Nat.{ℕ, ◌-◌, ◌≤◌, ◌<◌}
 use mathlib.Core.Path.{◌≡◌}
 use lib.ListN.{length, get_or}
 use Rattle.slip_search.specs.First.{RankFor}
-use Rattle.slip_search.proofs.ranks_of.Reads as reads
-use Rattle.slip_search.proofs.ranks_of.Lts as lts
 use Rattle.slip_search.proofs.ranks_of.Given as goal
 
 abbrev pub invariant-loop-i : goal.invariant-loop-i

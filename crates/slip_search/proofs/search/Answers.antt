@@ -1,13 +1,7 @@
-use Prim.Native.Nat.{◌-◌, ◌<◌}
+use Prim.Native.Nat.{◌<◌}
 use native.Mathlib.Omega.{arith}
 use Rattle.rules.proofs.Formulas.{good_room}
 use Rattle.slip_search.proofs.Levels.{level_start, child_ready, variable_low, room_left, level_none, level_next, level_end}
-use Rattle.slip_search.proofs.search.Reads as reads
-use Rattle.slip_search.proofs.search.Lts as lts
-use Rattle.rules.proofs.table.node_at.Reads as node-at-reads
-use Rattle.slip_search.proofs.first_run.Reads as first-run-reads
-use Rattle.slip_search.proofs.holds_at.Reads as holds-at-reads
-use Rattle.row_table.proofs.ranks.rebound.Reads as rebound-reads
 use Rattle.slip_search.proofs.search.Goals as goal
 
 pub node_at-x-requires : goal.node_at-x-requires

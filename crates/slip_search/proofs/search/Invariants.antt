@@ -1,11 +1,4 @@
-use Prim.Native.Nat.{◌-◌}
 use Rattle.slip_search.proofs.Levels.{Level}
-use Rattle.slip_search.proofs.search.Reads as reads
-use Rattle.slip_search.proofs.search.Lts as lts
-use Rattle.rules.proofs.table.node_at.Reads as node-at-reads
-use Rattle.slip_search.proofs.first_run.Reads as first-run-reads
-use Rattle.slip_search.proofs.holds_at.Reads as holds-at-reads
-use Rattle.row_table.proofs.ranks.rebound.Reads as rebound-reads
 use Rattle.slip_search.proofs.search.Given as goal
 
 abbrev pub invariant-loop-x : goal.invariant-loop-x

@@ -3,12 +3,6 @@ use mathlib.Core.Path.{sym, subst}
 use native.Mathlib.Omega.{arith}
 use Rattle.slips.specs.Parts.{FindsOf}
 use Rattle.slips.proofs.Chains.{chain_low, chain_ready, finds-nothing, finds_sought}
-use Rattle.slips.proofs.first_of.Reads as reads
-use Rattle.slips.proofs.first_of.Lts as lts
-use Rattle.slip_search.proofs.search.Reads as search-reads
-use Rattle.slips.proofs.found_by.Reads as found-by-reads
-use Rattle.slips.proofs.prepare.Reads as prepare-reads
-use Rattle.slips.proofs.without_slip.Reads as without-slip-reads
 use Rattle.slips.proofs.first_of.Goals as goal
 
 pub returns-then-runs-eq0 : goal.returns-then-runs-eq0

@@ -4,13 +4,6 @@ use borrow.Author.Tests.{not-true, not-false}
 use Rattle.slips.specs.declared.Found.TheVariants as Found
 use Rattle.slips.specs.Answers.{without_slip, FindsIn}
 use Rattle.slips.proofs.Calls.{rule_refused, form_refused, record_refused, answered}
-use Rattle.slips.proofs.first_slip.Reads as reads
-use Rattle.slips.proofs.first_slip.Lts as lts
-use Rattle.replay.proofs.is_record.Reads as is-record-reads
-use Rattle.rule_file.proofs.read_rule.Reads as read-rule-reads
-use Rattle.slip_form.proofs.chain_top.Reads as chain-top-reads
-use Rattle.slips.proofs.first_of.Reads as first-of-reads
-use Rattle.slips.proofs.without_slip.Reads as without-slip-reads
 use Rattle.slips.proofs.first_slip.Goals as goal
 
 pub returns-in-Refused : goal.returns-in-Refused

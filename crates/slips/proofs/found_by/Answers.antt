@@ -3,9 +3,6 @@ use mathlib.Core.Path.{sym, ap, ◌∙◌}
 use mathlib.Core.Bool.{Bool, cond}
 use Rattle.slips.specs.declared.Found.TheVariants as Found
 use Rattle.slips.specs.Answers.{with_slip, without_slip}
-use Rattle.slips.proofs.found_by.Reads as reads
-use Rattle.slips.proofs.found_by.Lts as lts
-use Rattle.slips.proofs.without_slip.Reads as without-slip-reads
 use Rattle.slips.proofs.found_by.Goals as goal
 
 pub returns-then-s : goal.returns-then-s

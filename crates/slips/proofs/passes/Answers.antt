@@ -5,12 +5,6 @@ use Rattle.slip_form.specs.Slips.{slip_runs}
 use Rattle.slips.specs.declared.Passing.TheVariants as Passing
 use Rattle.slips.specs.Answers.{ReadsIn}
 use Rattle.slips.proofs.Calls.{rule_refused, form_refused, record_refused, answered}
-use Rattle.slips.proofs.passes.Reads as reads
-use Rattle.slips.proofs.passes.Lts as lts
-use Rattle.replay.proofs.is_record.Reads as is-record-reads
-use Rattle.rule_file.proofs.read_rule.Reads as read-rule-reads
-use Rattle.slip_form.proofs.chain_top.Reads as chain-top-reads
-use Rattle.slips.proofs.read_slip.Reads as read-slip-reads
 use Rattle.slips.proofs.passes.Goals as goal
 
 pub returns-in-Refused : goal.returns-in-Refused

@@ -6,11 +6,6 @@ use borrow.Author.Tests.{not-true, not-false}
 use Rattle.slips.specs.declared.Passing.TheVariants as Passing
 use Rattle.slips.specs.Parts.{ReadsOf}
 use Rattle.slips.proofs.Chains.{chain_low, top_small, chain_ready, chain_byte, whole_chain, whole_some, reads_refused, reads_true}
-use Rattle.slips.proofs.read_slip.Reads as reads
-use Rattle.slips.proofs.read_slip.Lts as lts
-use Rattle.slip_search.proofs.is_true_of.Reads as is-true-of-reads
-use Rattle.slip_search.proofs.is_whole.Reads as is-whole-reads
-use Rattle.slips.proofs.prepare.Reads as prepare-reads
 use Rattle.slips.proofs.read_slip.Goals as goal
 
 pub bounds-heights-top : goal.bounds-heights-top

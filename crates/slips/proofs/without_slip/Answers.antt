@@ -1,6 +1,4 @@
 use Rattle.slips.proofs.Calls.{no_slip}
-use Rattle.slips.proofs.without_slip.Reads as reads
-use Rattle.slips.proofs.without_slip.Lts as lts
 use Rattle.slips.proofs.without_slip.Goals as goal
 
 pub returns : goal.returns

@@ -1,5 +1,4 @@
 -- The lines passed hold. So the first line whose verdict is that it fails is the first that fails.
-use Prim.Native.Nat.{◌-◌}
 use native.Mathlib.Omega.{arith}
 use Rattle.timeline.proofs.FirstLine.{hold_none, hold_more, first_found, none_found}
 use borrow.Author.Rules.{rules}

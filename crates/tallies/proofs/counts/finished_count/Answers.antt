@@ -1,5 +1,4 @@
 -- The loop's invariant: the finished runs passed and those that are left are all finished runs.
-use Prim.Native.Nat.{◌-◌}
 use mathlib.Core.Path.{◌≡◌}
 use native.Mathlib.Omega.{arith}
 use lib.ListN.{length}

@@ -1,6 +1,5 @@
 -- The loop goes on by more runs while the set has all moments of its part. By all runs the answer is right at each moment; by fewer it
 -- is right up to a moment that it lacks.
-use Prim.Native.Nat.{◌-◌}
 use native.Mathlib.Omega.{arith}
 use Rattle.rules.specs.Rules.{formula_of}
 use Rattle.timeline.proofs.Until.{until_all, until_lacking, end_more}

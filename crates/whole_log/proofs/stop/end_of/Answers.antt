@@ -1,5 +1,4 @@
 -- What is left of the first n lines stands behind the place: those of them that are not passed.
-use Prim.Native.Nat.{◌-◌}
 use native.Mathlib.Omega.{arith}
 use borrow.Author.Rules.{rules}
 use Rattle.whole_log.proofs.EndOf.{reached_none, reached_more, reached_lines, reached_end}

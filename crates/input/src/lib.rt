@@ -163,3 +163,67 @@ pub fn fail(what: &[u8], why: Option<io::Error>, error: Stderr) {
     let _ = error.write_all(&text[..told]);
     let _ = error.write_all(b"\n");
 }
+
+#[cfg(test)]
+mod tests {
+    use super::*;
+
+    // A reader that gives so many bytes, one at a time, and then ends or fails.
+    #[derive(Drop)]
+    struct Slow {
+        left: usize,
+        fails: bool,
+    }
+
+    impl Read for Slow {
+        fn read(&mut self, buf: &mut [u8]) -> io::Result<usize> {
+            if buf.is_empty() {
+                return Ok(0);
+            }
+            if self.left == 0 {
+                if self.fails {
+                    return Err(io::Error::other("gone"));
+                }
+                return Ok(0);
+            }
+            self.left -= 1;
+            buf[0] = b'x';
+            Ok(1)
+        }
+    }
+
+    // How many of four bytes are filled, 5 where a read failed, and 6 where it failed and no reason is kept.
+    fn filled(left: usize, fails: bool) -> usize {
+        let mut buf = [0u8; 4];
+        let mut why = None;
+        let mut from = Slow { left, fails };
+        match fill(&mut from, &mut buf, &mut why) {
+            Filled::Bytes(n) => n,
+            Filled::Failed => { if why.is_some() { 5 } else { 6 } }
+        }
+    }
+
+    #[test]
+    fn tells_a_failed_read_from_the_end(rt: HostRuntime) {
+        for (left, fails, want) in [
+            (0, false, 0),
+            (3, false, 3),
+            (9, false, 4),
+            (0, true, 5),
+            (3, true, 5),
+            (4, true, 4),
+        ] {
+            assert_eq!(rt;
+                filled(left, fails),
+                want,
+                "{left} bytes, then a failure: {fails}"
+            );
+        }
+    }
+
+    #[test]
+    fn leaves_the_systems_number_out(rt: HostRuntime) {
+        assert_eq!(rt; told_len(b"Is a directory (os error 21)"), 14);
+        assert_eq!(rt; told_len(b"gone"), 4);
+    }
+}

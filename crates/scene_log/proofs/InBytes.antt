@@ -1,6 +1,6 @@
 -- The ways out of the calls on a record in bytes. What is packed after a taken line is a record that accepted lines leave, so the
 -- next call reads it back whole.
-use Prim.Native.Nat.{ℕ, ◌+◌, ◌*◌, ◌<◌, ◌≤◌}
+use Prim.Native.Nat.{ℕ, ◌*◌, ◌<◌, ◌≤◌}
 use mathlib.Core.Path.{◌≡◌, refl, ap, sym, subst, ◌∙◌}
 use mathlib.Core.List.{List, [], ◌++◌}
 use native.Mathlib.Omega.{arith}
@@ -19,16 +19,13 @@ use Rattle.pairs.specs.declared.Start.TheVariants as Start
 use Rattle.pairs.specs.Pairs.{work_of}
 use Rattle.pairs.specs.Start.{start_of}
 use Rattle.relations.specs.declared.Related.{Related}
-use Rattle.relations.specs.declared.Related.TheVariants as Related
 use Rattle.relations.specs.Runs.{relate_in, Relating}
 use Rattle.relations.proofs.Runs.{not_finished, answers}
 use Rattle.logic.specs.declared.Verdict.{Verdict}
-use Rattle.logic.specs.declared.Verdict.TheVariants as Verdict
 use Rattle.single.specs.declared.Outcome.{Outcome}
 use Rattle.single.specs.declared.Checked.{Checked}
 use Rattle.reading.specs.Left.{Left}
 use Rattle.reading.specs.declared.Ending.{Ending}
-use Rattle.reading.specs.declared.Ending.TheVariants as Ending
 use Rattle.reading.specs.declared.LogRead.{LogRead}
 use Rattle.tallies.specs.declared.Tally.{Tally}
 use Rattle.tallies.specs.declared.Tallied.{Tallied}

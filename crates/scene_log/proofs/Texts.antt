@@ -1,5 +1,5 @@
 -- The calls that read and write typed rules.
-use Prim.Native.Nat.{ℕ, ◌≤◌}
+use Prim.Native.Nat.{ℕ}
 use mathlib.Core.Path.{◌≡◌, ap, ap₂, sym, subst, ◌∙◌}
 use mathlib.Core.List.{List, ◌++◌}
 use native.Mathlib.Omega.{arith}
@@ -9,8 +9,7 @@ use Rattle.rules.specs.Rules.{rule_of}
 use Rattle.typed.specs.Grammar.{read_text}
 use Rattle.output.specs.Written.{left_by}
 use Rattle.output.specs.declared.Written.{Written}
-use Rattle.output.specs.declared.Written.TheVariants as Written
-use Rattle.typed_file.specs.Answer.{typed_answer, bytes_of, ReadsText}
+use Rattle.typed_file.specs.Answer.{bytes_of, ReadsText}
 use Rattle.rule_text.specs.Text.{text_answer, WritesText}
 use Rattle.rule_text.specs.Text as Text
 use Rattle.typed_meaning.specs.Written.{WritesSaid}

@@ -1,6 +1,6 @@
 -- The calls on a record in bytes: its start, one line, one line with a tally, a whole log, the relation of two runs. "20 a lent
 -- buffer shorter than stated"
-use Rattle.std.specs.Prelude.{ℕ, ◌+◌, ◌*◌, ◌<◌, ◌≤◌, ◌≡◌, Bool, true, ◌||◌, cond, List, [], ◌++◌, ltb, length}
+use Rattle.std.specs.Prelude.{ℕ, ◌<◌, ◌≤◌, ◌≡◌, Bool, true, ◌||◌, cond, List, [], ◌++◌, ltb, length}
 use Rattle.lists.specs.Tells.{Tells}
 use Rattle.lists.specs.Limits.{max_lines}
 use Rattle.trace.specs.Trace.{Trace, no_trace, Accepted}

@@ -4,7 +4,6 @@ use Rattle.rules.specs.Rules.{rule_of}
 use Rattle.typed.specs.Grammar.{read_text}
 use Rattle.output.specs.Written.{left_by}
 use Rattle.output.specs.declared.Written.{Written}
-use Rattle.output.specs.declared.Written.TheVariants as Written
 use Rattle.typed_grammar.specs.Met.{MetText}
 use Rattle.typed_meaning.specs.Written.{WritesSaid}
 use Rattle.typed_file.specs.Answer.{typed_answer, bytes_of, ReadsText}

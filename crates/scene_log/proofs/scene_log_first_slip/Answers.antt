@@ -2,11 +2,6 @@
 use Rattle.slip_bytes.proofs.Few.{slip_few}
 use Rattle.scene_log.proofs.Slips.{find_no_record, find_no_room, find_known}
 use borrow.Author.Rules.{rules}
-use Rattle.scene_log.proofs.scene_log_first_slip.Reads as reads
-use Rattle.scene_log.proofs.scene_log_first_slip.Lts as lts
-use Rattle.record_bytes.proofs.unpack.Reads as unpack-reads
-use Rattle.slip_bytes.proofs.keep_slip.Reads as keep-slip-reads
-use Rattle.slips.proofs.first_slip.Reads as first-slip-reads
 use Rattle.scene_log.proofs.scene_log_first_slip.Goals as goal
 
 pub returns-then-carried-lt-RECORD_BYTES : goal.returns-then-carried-lt-RECORD_BYTES

@@ -1,11 +1,5 @@
 -- 20 for a buffer that is too short; then what is answered for the record that the bytes hold.
 use Rattle.scene_log.proofs.Slips.{pass_no_record, pass_known}
-use Rattle.scene_log.proofs.scene_log_slip_passes.Reads as reads
-use Rattle.scene_log.proofs.scene_log_slip_passes.Lts as lts
-use Rattle.record_bytes.proofs.unpack.Reads as unpack-reads
-use Rattle.slip_bytes.proofs.passing_number.Reads as passing-number-reads
-use Rattle.slip_bytes.proofs.slip_from.Reads as slip-from-reads
-use Rattle.slips.proofs.passes.Reads as passes-reads
 use Rattle.scene_log.proofs.scene_log_slip_passes.Goals as goal
 
 pub returns-then-carried-lt-RECORD_BYTES : goal.returns-then-carried-lt-RECORD_BYTES

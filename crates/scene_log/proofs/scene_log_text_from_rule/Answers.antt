@@ -1,9 +1,5 @@
 -- The buffer is that which writing leaves, and the answer is the number of what it answers.
 use Rattle.scene_log.proofs.Texts.{text_fits, writes_text}
-use Rattle.scene_log.proofs.scene_log_text_from_rule.Reads as reads
-use Rattle.scene_log.proofs.scene_log_text_from_rule.Lts as lts
-use Rattle.answer_numbers.proofs.written_number.Reads as written-number-reads
-use Rattle.rule_text.proofs.text_from_rule.Reads as text-from-rule-reads
 use Rattle.scene_log.proofs.scene_log_text_from_rule.Goals as goal
 
 pub written_number-requires : goal.written_number-requires

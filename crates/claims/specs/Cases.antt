@@ -88,7 +88,8 @@ pub record ModeCases : Type 0 where
   pub refused_first : read_part FirstFailure p1_file (bytes "B 7 EVENING\nE 9\nE 7\n") ≡ bytes "B 7 EVENING\nE 9\nE 7\n"
   -- P10 by default: the rule fails with the begin line, which is printed and counted
   pub p10 : read_part FirstFailure p10_file (bytes "B 1\nE 1\n") ≡ bytes "B 1\n"
-  pub p10-output : report_text p10_file (read_part FirstFailure p10_file (bytes "B 1\nE 1\n")) ≡ bytes "1 F\nT 1 1 0 1 1\n"
+  pub p10-output : report_text p10_file (read_part FirstFailure p10_file (bytes "B 1\nE 1\n"))
+      ≡ bytes "1 F\nT 1 1 0 1 1\n"
   -- and in the full mode
   pub p10_full : report_text p10_file (read_part Full p10_file (bytes "B 1\nE 1\n")) ≡ bytes "1 F\n2 F\nT 2 1 1 0 2\n"
   pub full_refused : report_text p1_file (read_part Full p1_file (p1_log ++ bytes "E 7\nB 1\n"))

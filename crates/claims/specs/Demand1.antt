@@ -23,7 +23,8 @@ use Rattle.single.specs.Line.{refusing}
 use Rattle.tallies.specs.Tally.{refusing_with}
 use Rattle.whole_log.specs.Log.{not_read, log_of, LineAt}
 use Rattle.report.specs.declared.Reported.TheVariants as Reported
-use Rattle.report.specs.Calls.{StartCall, LineCall, TalliedCall, LogCall, log_part, ReportCall, LongEnough, Lent, Beyond}
+use Rattle.report.specs.Calls.{StartCall, LineCall, TalliedCall, LogCall, log_part, ReportCall}
+use Rattle.report.specs.Calls.{LongEnough, Lent, Beyond}
 use Rattle.grammar.specs.MetBytes.{MetBytes}
 use Rattle.grammar.specs.MetRule.{MetRule}
 use Rattle.accepted_logs.specs.MetAfter.{MetAfter}

@@ -54,7 +54,8 @@ pub record LetterCases : Type 0 where
   pub small_b : read (bytes "b 1 TEST\n") ≡ refused 11
   pub small_e : read (bytes "B 1\ne 1\n") ≡ refused 11
   -- P1 with its labels in other cases, in the log and in the rule file
-  pub p1_log_lem : report_text p1_file (bytes "B 7 evening\nB 9 Test\nE 9\nE 7\n") ≡ bytes "1 H\n2 H\n3 H\n4 F\nT 4 2 2 0 1\n"
+  pub p1_log_lem : report_text p1_file (bytes "B 7 evening\nB 9 Test\nE 9\nE 7\n")
+      ≡ bytes "1 H\n2 H\n3 H\n4 F\nT 4 2 2 0 1\n"
   pub p1_rule_lem : rule_of p1_small ≡ RuleRead.Rule p1_rule
   pub p1-formula : formula_of p1_small p1_rule ≡ no_evening_includes_test
   -- "5 does for two labels in a rule file's list that differ only in case"
@@ -64,7 +65,8 @@ pub record LetterCases : Type 0 where
   -- "in a typed rule those are one label", and the rule that is written has the capitals
   pub typed-p1 : bytes_of (bytes "!exist A, B . A('evening') & B('Test') & A i B")
       (read_text (bytes "!exist A, B . A('evening') & B('Test') & A i B")) ≡ p1_file
-  pub typed_one : bytes_of (bytes "exist A . A('Test') & A('TEST')") (read_text (bytes "exist A . A('Test') & A('TEST')"))
+  pub typed_one : bytes_of (bytes "exist A . A('Test') & A('TEST')")
+      (read_text (bytes "exist A . A('Test') & A('TEST')"))
       ≡ bytes "RUL" ++ (1 ∷ 0 ∷ 1 ∷ 4 ∷ bytes "TEST" ++ (4 ∷ 4 ∷ 0 ∷ 0 ∷ 4 ∷ 0 ∷ 0 ∷ 1 ∷ 0 ∷ 1 ∷ 3 ∷ 0 ∷ 2 ∷ []))
   -- the words and names of a typed rule stay as they are
   pub small_word : typed_answer (bytes "Exist A . A < A") 599 ≡ Refused 25

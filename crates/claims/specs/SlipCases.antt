@@ -6,7 +6,8 @@ use Rattle.trace.specs.declared.Record.{Record}
 use Rattle.trace.specs.Trace.{Trace}
 use Rattle.trace.specs.Record.{record_of, Valid}
 use Rattle.rules.specs.Formula.{Formula, both, neg, exists, has, pair, before, overlaps, same}
-use Rattle.rules.specs.Cases.{p1_file, p10_file, no_evening_includes_test, no_test_without_run_after, some_same_as_itself}
+use Rattle.rules.specs.Cases.{p1_file, p10_file, no_evening_includes_test, no_test_without_run_after}
+use Rattle.rules.specs.Cases.{some_same_as_itself}
 use Rattle.slip_form.specs.Form.{SlipForm}
 use Rattle.slip_form.specs.declared.Slip.{Slip}
 use Rattle.slip_form.specs.Slips.{bind_each, unbound, Before, run_no, slip_runs, slip_of}
@@ -72,7 +73,8 @@ pub record SlipCases : Type 0 where
   pub p1-passes : (a : Passing) → ReadsSlip p1_file (record_of p1_trace) (slip_of (0 ∷ 1 ∷ [])) a → a ≡ Passing.Passes
   pub p1_turned : (a : Passing) → ReadsSlip p1_file (record_of p1_trace) (slip_of (1 ∷ 0 ∷ [])) a → a ≡ Passing.DoesNot
   pub p1_one_run : (a : Passing) → ReadsSlip p1_file (record_of p1_trace) (slip_of (0 ∷ [])) a → a ≡ Passing.Refused 22
-  pub p1_absent : (a : Passing) → ReadsSlip p1_file (record_of p1_trace) (slip_of (0 ∷ 2 ∷ [])) a → a ≡ Passing.Refused 22
+  pub p1_absent : (a : Passing) → ReadsSlip p1_file (record_of p1_trace) (slip_of (0 ∷ 2 ∷ [])) a
+      → a ≡ Passing.Refused 22
   -- the form: "not" over a chain over a part without "some"; no "some" below, no bare "some", no "not" twice
   pub form : SlipForm no_evening_includes_test
   pub some_below : SlipForm no_test_without_run_after → ⊥
@@ -87,9 +89,12 @@ pub record SlipCases : Type 0 where
   pub then_next : Before (0 ∷ 1 ∷ []) (0 ∷ 2 ∷ [])
   -- several slips pass: each of them is read, and the first is found
   pub row : (a : Finding) → FindsFirst none_before (record_of row_trace) a → a ≡ with_slip (slip_of (0 ∷ 1 ∷ []))
-  pub row_later : (a : Passing) → ReadsSlip none_before (record_of row_trace) (slip_of (0 ∷ 2 ∷ [])) a → a ≡ Passing.Passes
-  pub row_last : (a : Passing) → ReadsSlip none_before (record_of row_trace) (slip_of (1 ∷ 2 ∷ [])) a → a ≡ Passing.Passes
-  pub row_twice : (a : Passing) → ReadsSlip none_before (record_of row_trace) (slip_of (1 ∷ 1 ∷ [])) a → a ≡ Passing.DoesNot
+  pub row_later : (a : Passing) → ReadsSlip none_before (record_of row_trace) (slip_of (0 ∷ 2 ∷ [])) a
+      → a ≡ Passing.Passes
+  pub row_last : (a : Passing) → ReadsSlip none_before (record_of row_trace) (slip_of (1 ∷ 2 ∷ [])) a
+      → a ≡ Passing.Passes
+  pub row_twice : (a : Passing) → ReadsSlip none_before (record_of row_trace) (slip_of (1 ∷ 1 ∷ [])) a
+      → a ≡ Passing.DoesNot
   pub row_open : (a : Passing) → ReadsSlip none_before (record_of row_trace) (slip_of (0 ∷ 3 ∷ [])) a
       → a ≡ Passing.Refused 22
   pub row_three : (a : Passing) → ReadsSlip none_before (record_of row_trace) (slip_of (0 ∷ 1 ∷ 2 ∷ [])) a
@@ -106,7 +111,8 @@ pub record SlipCases : Type 0 where
   pub four_turned : (a : Passing) → ReadsSlip no_test_four_times (record_of p1_trace) (slip_of (1 ∷ 0 ∷ 0 ∷ 0 ∷ [])) a
       → a ≡ Passing.DoesNot
   pub five_runs : (a : Passing)
-      → ReadsSlip no_test_four_times (record_of p1_trace) (record { count = 5; run = (slip_of (0 ∷ 0 ∷ 0 ∷ 1 ∷ [])).run }) a
+      → ReadsSlip no_test_four_times (record_of p1_trace)
+      (record { count = 5; run = (slip_of (0 ∷ 0 ∷ 0 ∷ 1 ∷ [])).run }) a
       → a ≡ Passing.Refused 22
   -- the places of a slip: those behind its count have no part, and are 0 in ours
   pub places : slip_of (4 ∷ 5 ∷ []) ≡ record { count = 2; run = run_no 4 ∷ run_no 5 ∷ run_no 0 ∷ run_no 0 ∷ [] }

@@ -246,7 +246,7 @@ the_modes =
     record {
       reads = λ mode file x log e. part_of_lem file x e mode log;
       part = λ k. k.checks.part;
-      report_part_lem = λ k. k.reports.part;
+      report-part = λ k. k.reports.part;
       one = one_part;
       cut = λ j k s e l. same_part j k s (full_part j.mode j.file j.log e ∙ l);
       cut-report = λ j k s e l. same_part_report j k s (full_part j.mode j.file j.log e ∙ l);

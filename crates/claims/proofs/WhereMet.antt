@@ -36,7 +36,7 @@ use Rattle.pairs.specs.Layout.{work_size}
 use Rattle.whole_log.proofs.Lines.{from-taken, from_refused}
 use Rattle.reading.proofs.Lines.{same_trace, after_line_lem, no_line}
 use Rattle.accepted_logs.specs.MetAfter.{MetAfter}
-use Rattle.claims.specs.WhereMet.{Met, Counts, MetTally, wrong, right, MetLog, short_work, short_verdicts, log_rule_lem, log_line}
+use Rattle.claims.specs.WhereMet.{Met, Counts, MetTally, wrong, right, MetLog, short_work, short_verdicts, log-rule, log_line}
 use Rattle.claims.proofs.Stops.{same_refusal, not_judged, End, same_ending, Stopped, stops, start_of, start_accepted, first_refused}
 use Rattle.accepted_logs.proofs.AfterMet.{after_met}
 use Rattle.claims.proofs.Fronts.{taken_ruled, ruled_taken, handed, answer_by, front_met}
@@ -214,7 +214,7 @@ log_of_met lay file log w out c n = (forth, back)
     reading : work_size lay ≤ length w → 256 ≤ length out → (q : RuleRead) → rule_of file ≡ q → (log_of lay file log w out).0.ending ≡ Ending.Refused c n → MetLog lay file log w out c n
     reading s v (RuleRead.Refused m) q e =
         let p = same_ending c m n 0 (sym (rule s v _ q) ∙ e) in
-        log_rule_lem s v ((rule_met file c).0 (q ∙ ap RuleRead.Refused p.0)) (sym p.1)
+        log-rule s v ((rule_met file c).0 (q ∙ ap RuleRead.Refused p.0)) (sym p.1)
     reading s v (RuleRead.Rule x) q e =
         let g : Stopped lay file x w no_trace (lines_of log) out c n = stops lay file x w (lines_of log) no_trace out c n (sym (rule s v _ q) ∙ e) in
         log_line s v (taken_ruled file x q) (first_refused lay file x w log out c n g)
@@ -232,7 +232,7 @@ log_of_met lay file log w out c n = (forth, back)
     back : MetLog lay file log w out c n → (log_of lay file log w out).0.ending ≡ Ending.Refused c n
     back (short_work s e m) = short (is_short_work lay w out s) ∙ (λ i. Ending.Refused (sym e i) (sym m i))
     back (short_verdicts s e m) = short (is_short_verdicts lay w out s) ∙ (λ i. Ending.Refused (sym e i) (sym m i))
-    back (log_rule_lem s v q m) = rule s v _ ((rule_met file c).1 q) ∙ ap (Ending.Refused c) (sym m)
+    back (log-rule s v q m) = rule s v _ ((rule_met file c).1 q) ∙ ap (Ending.Refused c) (sym m)
     back (log_line s v g f m) =
         let z = ruled_taken file g in
         let x = z.0 in

@@ -54,9 +54,9 @@ pub record LetterCases : Type 0 where
   pub small_b : read (bytes "b 1 TEST\n") ≡ refused 11
   pub small_e : read (bytes "B 1\ne 1\n") ≡ refused 11
   -- P1 with its labels in other cases, in the log and in the rule file
-  pub p1_log_lem : report_text p1_file (bytes "B 7 evening\nB 9 Test\nE 9\nE 7\n")
+  pub p1-log : report_text p1_file (bytes "B 7 evening\nB 9 Test\nE 9\nE 7\n")
       ≡ bytes "1 H\n2 H\n3 H\n4 F\nT 4 2 2 0 1\n"
-  pub p1_rule_lem : rule_of p1_small ≡ RuleRead.Rule p1_rule
+  pub p1-rule : rule_of p1_small ≡ RuleRead.Rule p1_rule
   pub p1-formula : formula_of p1_small p1_rule ≡ no_evening_includes_test
   -- "5 does for two labels in a rule file's list that differ only in case"
   pub listed : rule_of (two_labels 65 97) ≡ RuleRead.Refused 5

@@ -68,7 +68,7 @@ pub record Modes : Type 0 where
       → PartOf mode file x log (read_part mode file log)
   pub part : (k : LogCall) (x : Rule) → rule_of k.file ≡ RuleRead.Rule x
       → PartOf k.mode k.file x k.log (log_part k)
-  pub report_part_lem : (k : ReportCall) (x : Rule) → rule_of k.file ≡ RuleRead.Rule x
+  pub report-part : (k : ReportCall) (x : Rule) → rule_of k.file ≡ RuleRead.Rule x
       → PartOf k.mode k.file x k.log (report_part k)
   -- there is one such part
   pub one : (mode : Mode) (file : List ℕ) (x : Rule) (log p q : List ℕ) → PartOf mode file x log p

@@ -119,9 +119,9 @@ pub record SlipCases : Type 0 where
   pub behind : slip_runs (record { count = 2; run = run_no 4 ∷ run_no 5 ∷ run_no 6 ∷ run_no 7 ∷ [] }) ≡ 4 ∷ 5 ∷ []
   -- the form: one "some", four, a "not" in the part, a variable bound twice; not five, and no "some" on either side
   pub one_some : SlipForm (neg (exists 0 (neg (has 0 (bytes "TEST")))))
-  pub four_some_lem : SlipForm (neg four_some)
+  pub four-some : SlipForm (neg four_some)
   pub some_twice : SlipForm bound_twice
-  pub five_some_lem : SlipForm (neg five_some) → ⊥
+  pub five-some : SlipForm (neg five_some) → ⊥
   pub no_some : SlipForm (neg (has 0 (bytes "TEST"))) → ⊥
   pub some_left : SlipForm (neg (exists 0 (both (exists 1 (pair before 0 1)) (has 0 (bytes "TEST"))))) → ⊥
   -- a rule of another form is 26 whatever the record and the slip

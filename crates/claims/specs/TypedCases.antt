@@ -116,7 +116,7 @@ pub record TypedCases : Type 0 where
   pub p1 : typed_answer p1_text 599 ≡ Length 44
   pub p1-file : bytes_of p1_text (read_text p1_text) ≡ p1_file
   pub p1-says : SaysFormula p1_text no_evening_includes_test
-  pub p1_text_lem : rule_text no_evening_includes_test ≡ bytes "!(exist A.(exist B.((A('EVENING')&B('TEST'))&A i B)))"
+  pub p1-text : rule_text no_evening_includes_test ≡ bytes "!(exist A.(exist B.((A('EVENING')&B('TEST'))&A i B)))"
   -- figure 1
   pub figure1-1 : SaysFormula property1 no_image_during_two_boots
   pub figure1-2 : SaysFormula property2 no_fail_during_parameters

@@ -50,7 +50,7 @@ pub data MetTally (y : Tally) (line : List ℕ) (t : Trace) (c : ℕ) : Type 0 w
 pub data MetLog (lay : Layout) (file log w out : List ℕ) (c n : ℕ) : Type 0 where
   short_work : length w < work_size lay → c ≡ 20 → n ≡ 0 → MetLog lay file log w out c n
   short_verdicts : length out < max_lines → c ≡ 20 → n ≡ 0 → MetLog lay file log w out c n
-  log_rule_lem : work_size lay ≤ length w → max_lines ≤ length out → MetRule file c → n ≡ 0
+  log-rule : work_size lay ≤ length w → max_lines ≤ length out → MetRule file c → n ≡ 0
       → MetLog lay file log w out c n
   log_line : work_size lay ≤ length w → max_lines ≤ length out → Ruled file
       → (f : LineAt log n) → MetAfter f.trace f.line c → MetLog lay file log w out c n

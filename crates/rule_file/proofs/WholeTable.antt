@@ -1,15 +1,17 @@
 -- The checks of a whole table: each function's answer from those of its callees.
 use Prim.Native.Nat.{ℕ, zero, suc, ◌+◌, ◌-◌, ◌<◌, ◌≤◌}
 use mathlib.Core.Path.{◌≡◌, refl, sym, subst, ap, ap₂, fun_ext, ◌∙◌}
-use mathlib.Core.Bool.{Bool, true, false, not, ◌&&◌, ◌||◌, cond, and-false}
-use mathlib.Core.List.{List, [], ◌∷◌}
+use mathlib.Core.Bool.{Bool, true, false, not, ◌&&◌, ◌||◌, cond, and-true}
+use mathlib.Core.List.{List, [], ◌∷◌, map}
 use native.Mathlib.Omega.{arith}
 use native.Mathlib.Numerals.{add-one}
+use Rattle.std.specs.List.{list_all, range_with_len}
+use Rattle.std.proofs.lemmas.List.Folds.{list_all-append, list_all-map}
+use Rattle.std.proofs.lemmas.List.FromFn.{map-range_with_len_more}
 use lib.Dec.{eqb, leb, ltb}
 use lib.ListN.{length, get_or, set}
 use lib.Seq.{get_or-set_same, get_or-set_other}
 use borrow.Author.Tests.{eq-eqb, ne_eqb, eqb-true, eqb-false, not-true, not-false}
-use Rattle.lists.proofs.Cases.{either_eq}
 use Rattle.rules.specs.Limits.{last_kind, max_nested}
 use Rattle.rules.specs.Formula.{Formula, Scope, no_scope, enter, scoped, one_less, shallow}
 use Rattle.rules.specs.Parts.{label_count}
@@ -62,26 +64,21 @@ named_next file p i c n m x e f g = rw (add-one i) (ap₂ ◌+◌ e (g ∙ ap (�
 pub named_end : (file : List ℕ) (p i k c n : ℕ) → n ≡ times_named file p i c → i ≤ k → k ≤ i → n ≡ times_named file p k c
 named_end file p i k c n e h l = let q : i ≡ k = omega arith in subst (λ (j : ℕ). n ≡ times_named file p j c) q e
 
-pub once_first : (file : List ℕ) (p n : ℕ) → once_below file p n 0 ≡ true
+-- a test of the numbers below c + 1: of those below c, and of c
+all_more : (t : ℕ → Bool) (c : ℕ) → list_all t (range_with_len 0 (c + 1)) ≡ (list_all t (range_with_len 0 c) && t c)
+all_more t c =
+    sym (list_all-map (λ b. b) t (range_with_len 0 (c + 1)))
+    ∙ ap (list_all (λ b. b)) (map-range_with_len_more t 0 c c (omega arith))
+    ∙ list_all-append (λ b. b) (map t (range_with_len 0 c)) (t c ∷ [])
+    ∙ ap₂ ◌&&◌ (list_all-map (λ b. b) t (range_with_len 0 c)) (and-true (t c))
+
+-- one test for each of the first c nodes
+pub once_all : (file : List ℕ) (p n c : ℕ) → once_below file p n c ≡ list_all (λ m. eqb (times_named file p n m) 1) (range_with_len 0 c)
 unfolding once_below
-once_first file p n = refl
-
-module _ (file : List ℕ) (p n c u : ℕ) (e : u ≡ times_named file p n c) where
-  pub once_next : once_below file p n c ≡ true → u ≡ 1 → once_below file p n (c + 1) ≡ true
-  unfolding once_below
-  once_next f g = rw (add-one c, f, eq-eqb (times_named file p n c) 1 (sym e ∙ g)) refl
-
-  pub once-stop : (last : ℕ) → (u ≡ 1 → ⊥) → c < last → false ≡ once_below file p n last
-  unfolding once_below
-  once-stop zero g h = absurd (omega arith)
-  once-stop (suc last) g h =
-      either_eq c last
-      (λ q. let f : eqb (times_named file p n last) 1 ≡ false = subst (λ (k : ℕ). eqb (times_named file p n k) 1 ≡ false) q (ne_eqb (times_named file p n c) 1 (λ w. g (e ∙ w))) in
-      rw f (sym (and-false (once_below file p n last))))
-      (λ q. rw (sym (once-stop last g (omega arith))) refl)
-
-pub once_end : (file : List ℕ) (p n c last : ℕ) → once_below file p n c ≡ true → c ≤ last → last ≤ c → true ≡ once_below file p n last
-once_end file p n c last e h k = let q : c ≡ last = omega arith in sym (subst (λ (i : ℕ). once_below file p n i ≡ true) q e)
+once_all file p n zero = refl
+once_all file p n (suc c) =
+    let once : ℕ → Bool = λ m. eqb (times_named file p n m) 1 in
+    ap (λ t. t && once c) (once_all file p n c) ∙ sym (all_more once c) ∙ ap (λ m. list_all once (range_with_len 0 m)) (add-one c)
 
 -- ── 9: variables in scope ──
 pub enter-set : (l : List Bool) (v : ℕ) → v < length l → (λ (w : ℕ). get_or (set l v true) w false) ≡ enter (λ (w : ℕ). get_or l w false) v

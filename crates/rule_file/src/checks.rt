@@ -39,10 +39,8 @@ fn times_named(file: &[u8], first: usize, count: usize, c: usize) -> usize
     ensures { result ≡ times_named file.now first count c }
 {
     let mut n: usize = 0;
-    let mut i = 0;
-    while i < count {
+    for i in 0..count {
         n += node_names(node_at(file, first, i), c);
-        i += 1;
     }
     n
 }
@@ -53,14 +51,7 @@ fn named_once(file: &[u8], first: usize, count: usize) -> bool
     ensures { result ≡ named_once file.now first count }
 {
     let last = count - 1;
-    let mut c = 0;
-    while c < last {
-        if times_named(file, first, count, c) != 1 {
-            return false;
-        }
-        c += 1;
-    }
-    true
+    (0..last).all(|c| times_named(file, first, count, c) == 1)
 }
 
 // The variables bound inside a "some" that binds v.

@@ -15,15 +15,13 @@ fn is_listed(file: &[u8], n: usize, at: usize) -> bool
     let from = at + 1;
     let end = from + file[at] as usize;
     let mut p: usize = LABELS_AT;
-    let mut m = 0;
-    while m < n {
+    for _m in 0..n {
         let a = p + 1;
         let e = a + file[p] as usize;
         if labels::same_label(&file[a..e], &file[from..end]) {
             return true;
         }
         p = e;
-        m += 1;
     }
     false
 }
@@ -63,8 +61,7 @@ pub fn labels(file: &[u8], count: usize) -> Read
     ensures { result ≡ read_labels file.now count }
 {
     let mut at: usize = LABELS_AT;
-    let mut i = 0;
-    while i < count {
+    for i in 0..count {
         let r = label(file, i, at);
         match r {
             Read::At(next) => {
@@ -74,7 +71,6 @@ pub fn labels(file: &[u8], count: usize) -> Read
                 return Read::Refused(n);
             }
         }
-        i += 1;
     }
     Read::At(at)
 }
@@ -85,10 +81,8 @@ fn label_place(file: &[u8], n: usize) -> usize
     ensures { result ≡ label_start file.now n }
 {
     let mut p: usize = LABELS_AT;
-    let mut i = 0;
-    while i < n {
+    for _i in 0..n {
         p = p + 1 + file[p] as usize;
-        i += 1;
     }
     p
 }

@@ -80,8 +80,7 @@ pub fn nodes(file: &[u8], labels: usize, first: usize, count: usize) -> Read
     requires { (labels ≡ label_count file.now) × (first ≤ length file.now) }
     ensures { result ≡ read_nodes file.now first count }
 {
-    let mut i = 0;
-    while i < count {
+    for i in 0..count {
         let r = node(file, labels, first, i);
         match r {
             Read::At(_) => {}
@@ -89,7 +88,6 @@ pub fn nodes(file: &[u8], labels: usize, first: usize, count: usize) -> Read
                 return Read::Refused(n);
             }
         }
-        i += 1;
     }
     Read::At(first + 3 * count)
 }

@@ -1,17 +1,15 @@
--- The nodes passed are named once.
-use native.Mathlib.Omega.{arith}
-use borrow.Author.Rules.{rules}
-use Rattle.rule_file.proofs.WholeTable.{once_first, once_next, once-stop, once_end}
+-- Each node but the last is tested in turn.
+use Rattle.std.proofs.Common.{ℕ, ◌-◌, Bool, eqb, rules, tests, sym, ◌∙◌}
+use Rattle.std.proofs.lemmas.Iterator.{YieldsList-from_range}
+use Rattle.std.proofs.lemmas.Iterator.Search.{all_from_yields_List}
+use Rattle.rules.specs.Checks.{times_named}
+use Rattle.rule_file.proofs.WholeTable.{once_all}
 use Rattle.rule_file.proofs.checks.named_once.Goals as goal
 
-pub loop-c-init : goal.loop-c-init
-loop-c-init c = (search rules, once_first _ _ _)
-
-pub returns-then-times_named-ne1 : goal.returns-then-times_named-ne1
-returns-then-times_named-ne1 c = once-stop _ _ _ _ _ c.times_named.ensures _ (λ q. omega arith) (search rules)
-
-pub loop-c-preserved : goal.loop-c-preserved
-loop-c-preserved c = (search rules, search once_next)
-
 pub returns : goal.returns
-returns c = search once_end
+returns c =
+    let once : ℕ → Bool = λ m. eqb (times_named c.args.file.now c.args.first c.args.count m) 1 in
+    all_from_yields_List once _ _ _ c.all.ensures.ran
+    (YieldsList-from_range 0 (c.args.count - 1) (c.args.count - 1) (search rules) (search rules))
+    (λ x b q k. search (rules, tests))
+    ∙ sym (once_all c.args.file.now c.args.first c.args.count (c.args.count - 1))

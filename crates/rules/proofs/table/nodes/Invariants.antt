@@ -1,5 +1,5 @@
 -- The nodes passed are read, and the next one is at the place after them.
-use Prim.Native.Nat.{◌+◌, ◌-◌, ◌*◌, ◌≤◌}
+use Prim.Native.Nat.{◌+◌, ◌*◌, ◌≤◌}
 use mathlib.Core.Path.{◌≡◌}
 use lib.ListN.{length}
 use Rattle.rules.specs.Table.{read_nodes}
@@ -7,7 +7,4 @@ use Rattle.rules.specs.declared.Read.TheVariants.{At}
 use Rattle.rules.proofs.table.nodes.Given as goal
 
 abbrev pub invariant-loop-i : goal.invariant-loop-i
-invariant-loop-i l = (l.i ≤ l.count) × (l.first + 3 * l.i ≤ length l.file) × (read_nodes l.file l.first l.i ≡ At (l.first + 3 * l.i))
-
-abbrev pub decreases-loop-i : goal.decreases-loop-i
-decreases-loop-i l = l.count - l.i
+invariant-loop-i l = (l.first + 3 * l.i ≤ length l.file) × (read_nodes l.file l.first l.i ≡ At (l.first + 3 * l.i))

@@ -28,11 +28,9 @@ pub fn wanted_numbers(file: &[u8], count: usize, t: LabelTable) -> [u8; MAX_LABE
     ensures { (p : ℕ) → p < count → get_or result p 0 ≡ slot_number (lookup t (label_of (label_bytes file.now p))) }
 {
     let mut numbers = [0u8; MAX_LABELS];
-    let mut p: usize = 0;
-    while p < count {
+    for p in 0..count {
         let x = rules::file_labels::label_of(file, p);
         numbers[p] = number_of(t, x);
-        p += 1;
     }
     numbers
 }

@@ -139,15 +139,13 @@ fn some_loop(
         → TrueAt M (exists v (formula_at file.now first child)) (binding b) dom result }
 {
     let mut got = sets::empty();
-    let mut r: usize = 0;
-    while r < runs {
+    for r in 0..runs {
         let left = left_of(dom, got, keep, r);
         if !sets::none(left) {
             let at_r = rebound(b, v, Rank(r as u8));
             let found = times(file, first, heights, frees, table, runs, child, at_r, left);
             got = sets::join(got, found);
         }
-        r += 1;
     }
     got
 }

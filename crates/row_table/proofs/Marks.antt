@@ -1,15 +1,16 @@
 -- Bindings with a mark: what each variable stands for once the mark stands for a run.
 use Prim.Native.Nat.{ℕ, zero, suc, ◌<◌, ◌≤◌}
 use mathlib.Core.Path.{◌≡◌, refl, sym, ap, subst, fun_ext}
-use mathlib.Core.Bool.{Bool, true, false, cond}
+use mathlib.Core.Bool.{Bool, true, false, cond, not, ◌&&◌}
 use mathlib.Core.List.{List, [], ◌∷◌}
-use native.Mathlib.Nat.{not-suc-le-zero, le_of_suc-le-suc}
 use native.Mathlib.Omega.{arith}
 use lib.Dec.{eqb}
 use lib.ListN.{length, get_or, set}
 use lib.Seq.{get_or-set_same, get_or-set_other}
 use borrow.Author.Tests.{eqb-true, eqb-false, ne_eqb}
-use Rattle.lists.proofs.Cases.{either_lt}
+use Rattle.std.specs.List.{list_all}
+use Rattle.lists.specs.Tells.{Tells}
+use Rattle.lists.proofs.Tells.{tell_no, tell_yes, tell_by}
 use Rattle.logic.specs.Satisfies.{Binding, bind}
 use Rattle.row_table.specs.declared.Rank.{Rank}
 use Rattle.row_table.specs.Truth.{each, at, Fixed}
@@ -53,10 +54,18 @@ rebind l v j h = fun_ext (λ w. go w (eqb v w) refl)
     go w true e = ap (λ (r : Rank). r.0) (subst (λ (u : ℕ). get_or (set l v j) u (rank 0) ≡ j) (eqb-true v w e) (get_or-set_same l v j (rank 0) h))
     go w false e = ap (λ (r : Rank). r.0) (get_or-set_other l v w j (rank 0) (λ q. eqb-false v w e (sym q)))
 
-past : (l : List Rank) (w : ℕ) → length l ≤ w → get_or l w (rank 0) ≡ rank 0
-past [] w h = refl
-past (a ∷ l) zero h = absurd (not-suc-le-zero h)
-past (a ∷ l) (suc w) h = past l w (le_of_suc-le-suc h)
+-- a test of each rank of the array tells whether no variable is marked: past its end each stands for rank 0
+abbrev pub unmarked : Rank → Bool
+unmarked r = not (eqb r.0 128)
 
-pub all_fixed : (l : List Rank) → length l ≡ 4 → ((k : ℕ) → k < 4 → (get_or l k (rank 0)).0 < 128) → (w : ℕ) → (get_or l w (rank 0)).0 < 128
-all_fixed l e h w = either_lt w 4 (h w) (λ g. rw (past l w (omega arith)) (omega arith))
+pub run_fixed : (l : List Rank) → ((w : ℕ) → (get_or l w (rank 0)).0 ≤ 128) → Tells (list_all unmarked l) ((w : ℕ) → (get_or l w (rank 0)).0 < 128)
+run_fixed [] h = tell_yes (λ w. omega arith)
+run_fixed (a ∷ l) h = go (eqb a.0 128) refl (run_fixed l (λ w. h (suc w)))
+  where
+    below : ((w : ℕ) → (get_or l w (rank 0)).0 < 128) → a.0 < 128 → (w : ℕ) → (get_or (a ∷ l) w (rank 0)).0 < 128
+    below f g zero = g
+    below f g (suc w) = f w
+
+    go : (x : Bool) → eqb a.0 128 ≡ x → Tells (list_all unmarked l) ((w : ℕ) → (get_or l w (rank 0)).0 < 128) → Tells (not x && list_all unmarked l) ((w : ℕ) → (get_or (a ∷ l) w (rank 0)).0 < 128)
+    go true e t = tell_no (λ f. omega (arith, eqb-true a.0 128 e, f 0))
+    go false e t = tell_by (λ f. below f (omega (arith, eqb-false a.0 128 e, h 0))) (λ g w. g (suc w)) t

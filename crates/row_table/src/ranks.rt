@@ -7,7 +7,6 @@ ghost use Rattle.row_table.specs.Truth.{Fixed};
 ghost use Rattle.row_table.specs.Ranks.{binding, InRange};
 
 use crate::{Bindings, EACH, Rank};
-use rules::VARIABLES;
 
 // The rank that variable v stands for.
 pub fn bound(b: Bindings, v: usize) -> usize
@@ -33,12 +32,5 @@ pub fn fixed(b: Bindings) -> bool
     requires { InRange b }
     ensures { Tells result (Fixed (binding b)) }
 {
-    let mut v: usize = 0;
-    while v < VARIABLES {
-        if bound(b, v) == EACH {
-            return false;
-        }
-        v += 1;
-    }
-    true
+    b.run.iter().all(|rank| rank.0 as usize != EACH)
 }

@@ -30,18 +30,15 @@ fn by_rank(t: RunTable, o: Order) -> Positions
     requires { OrderFits t o }
     ensures { ByRank t o o.count result.start result.finish result.number × Ranks result.start result.finish result.number }
 {
-    let n = o.count;
     let mut start = [0usize; MAX_RUNS];
     let mut finish = [0usize; MAX_RUNS];
     let mut number = [0usize; MAX_RUNS];
-    let mut i: usize = 0;
-    while i < n {
+    for i in 0..o.count {
         let k = o.run[i] as usize;
         let r = t.list[k];
         start[i] = r.begin.0 as usize;
         finish[i] = r.end.0 as usize;
         number[i] = r.label.0 as usize;
-        i += 1;
     }
     Positions {
         start: start,

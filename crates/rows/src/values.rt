@@ -160,12 +160,10 @@ pub fn fill_table<'a>(
     ensures { Filled start.now finish.now number.now wanted.now labels
         table.old table.new table_rows }
 {
-    let mut r: usize = 0;
-    while r < TABLE_ROWS {
+    for r in 0..TABLE_ROWS {
         let s = row_of(
             r, start, finish, number, wanted, labels, begun, ended, labelled,
         );
         store_row(table, r, s);
-        r += 1;
     }
 }

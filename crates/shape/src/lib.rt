@@ -60,10 +60,8 @@ pub fn free_variables(file: &[u8], first: usize, count: usize) -> [u8; MAX_NODES
     ensures { TableOf FreeMask file.now first count result }
 {
     let mut masks = [0u8; MAX_NODES];
-    let mut n: usize = 0;
-    while n < count {
+    for n in 0..count {
         masks[n] = free_in_node(file, first, n, &masks);
-        n += 1;
     }
     masks
 }
@@ -107,10 +105,8 @@ pub fn heights(file: &[u8], first: usize, count: usize) -> [u8; MAX_NODES]
     ensures { TableOf Height file.now first count result }
 {
     let mut heights = [0u8; MAX_NODES];
-    let mut n: usize = 0;
-    while n < count {
+    for n in 0..count {
         heights[n] = height_of_node(file, first, n, &heights);
-        n += 1;
     }
     heights
 }

@@ -36,31 +36,31 @@ pub up_to_before : (n k : ℕ) → (k ≡ n → ⊥) → verdict_up_to n k ≡ H
 up_to_before n k d = ap (λ (b : Bool). cond b Fails Holds) (ne_eqb k n d)
 
 -- ── a search through the lines ──
--- lines 1 to k hold
+-- the lines before line k hold
 abbrev pub HoldTo : Timeline → ℕ → Type 0
-HoldTo y k = (l : ℕ) → 0 < l → l ≤ k → verdict_at y l ≡ Holds
+HoldTo y k = (l : ℕ) → 0 < l → l < k → verdict_at y l ≡ Holds
 
-pub hold_none : (y : Timeline) → HoldTo y 0
+pub hold_none : (y : Timeline) → HoldTo y 1
 hold_none y l p h = absurd (omega arith)
 
 module _ (y : Timeline) (k : ℕ) (h : HoldTo y k) where
-  pub hold_more : (v : Verdict) (b : Bool) → v ≡ verdict_at y (k + 1) → v ≡ cond b Fails Holds → b ≡ false → HoldTo y (k + 1)
+  pub hold_more : (v : Verdict) (b : Bool) → v ≡ verdict_at y k → v ≡ cond b Fails Holds → b ≡ false → HoldTo y (k + 1)
   hold_more v b e f q l p m =
-      either_eq l (k + 1)
+      either_eq l k
       (λ z. ap (verdict_at y) z ∙ (sym e ∙ (f ∙ ap (λ (x : Bool). cond x Fails Holds) q)))
       (λ d. h l p (omega (arith, d)))
 
-  pub first_found : (lines : ℕ) (v : Verdict) (b : Bool) → k < lines → v ≡ verdict_at y (k + 1) → v ≡ cond b Fails Holds → b ≡ true → FirstFails y lines (k + 1)
-  first_found lines v b low e f q =
+  pub first_found : (lines : ℕ) (v : Verdict) (b : Bool) → 0 < k → k < lines + 1 → v ≡ verdict_at y k → v ≡ cond b Fails Holds → b ≡ true → FirstFails y lines k
+  first_found lines v b some low e f q =
       record {
         low = omega arith;
         verdict = λ l p m n.
-            either_eq l (k + 1)
-            (λ z. ap (verdict_at y) z ∙ (sym e ∙ (f ∙ (ap (λ (x : Bool). cond x Fails Holds) q ∙ sym (up_to_there (k + 1) l z)))))
-            (λ d. h l p (omega (arith, d, n (omega arith))) ∙ sym (up_to_before (k + 1) l d));
+            either_eq l k
+            (λ z. ap (verdict_at y) z ∙ (sym e ∙ (f ∙ (ap (λ (x : Bool). cond x Fails Holds) q ∙ sym (up_to_there k l z)))))
+            (λ d. h l p (omega (arith, d, n (omega arith))) ∙ sym (up_to_before k l d));
       }
 
-  pub none_found : (lines : ℕ) → lines ≤ k → FirstFails y lines 0
+  pub none_found : (lines : ℕ) → lines < k → FirstFails y lines 0
   none_found lines all =
       record {
         low = omega arith;

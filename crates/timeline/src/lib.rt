@@ -205,13 +205,10 @@ fn first_fails(x: Timeline, lines: usize) -> usize
     requires lines_le_max_lines { lines ≤ max_lines }
     ensures { FirstFails x lines result }
 {
-    let mut k: usize = 0;
-    while k < lines {
-        let v = verdict_at(x, k + 1);
-        if fails(v) {
-            return k + 1;
+    for line in 1..lines + 1 {
+        if fails(verdict_at(x, line)) {
+            return line;
         }
-        k += 1;
     }
     0
 }

@@ -77,6 +77,7 @@ pub fn true_until(
         → TrueUntil stop M (formula_of file.now rule) low count result }
 {
     let mut end = first_end(low, count, stop);
+    // Kept: the new form is no plainer. The end grows by what each part shows, which no range or iterator gives.
     loop {
         let s = true_moments(file, rule, heights, frees, table, end, low, end);
         if count <= end {

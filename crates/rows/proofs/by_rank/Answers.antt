@@ -9,7 +9,7 @@ use Rattle.rows.proofs.Ranked.{by_rank_none, by_rank_more, by_rank_fits}
 use Rattle.rows.proofs.by_rank.Goals as goal
 
 pub loop-i-init : goal.loop-i-init
-loop-i-init c = (omega arith, refl, refl, refl, by_rank_none _ _)
+loop-i-init c = (refl, refl, refl, by_rank_none _ _)
 
 pub offset_bounds-t-k : goal.offset_bounds-t-k
 offset_bounds-t-k c = let low : get_or c.args.o.run c.loop-i.i 0 < 128 = c.requires.run_low c.loop-i.i (omega arith) in
@@ -25,16 +25,15 @@ loop-i-preserved c = let at = c.loop-i in
     let ls : at.i < length at.start = omega (arith, c.requires.ranks) in
     let lf : at.i < length at.finish = omega (arith, c.requires.ranks) in
     let ln : at.i < length at.number = omega (arith, c.requires.ranks) in (
-      omega arith,
+      simp length-set at.invariant.0,
       simp length-set at.invariant.1,
       simp length-set at.invariant.2,
-      simp length-set at.invariant.3,
-      by_rank_more a.t a.o at.start at.finish at.number at.i _ _ _ ls lf ln refl refl refl at.invariant.4,
+      by_rank_more a.t a.o at.start at.finish at.number at.i _ _ _ ls lf ln refl refl refl at.invariant.3,
     )
 
 pub returns : goal.returns
 returns c = let at = c.loop-i in
     let a = c.args in
     let e : at.i ≡ a.o.count = omega arith in
-    let ranked : ByRank a.t a.o a.o.count at.start at.finish at.number = rw e at at.invariant.4 in
-    (ranked, by_rank_fits a.t a.o c.requires _ _ _ _ at.invariant.1 at.invariant.2 at.invariant.3 ranked)
+    let ranked : ByRank a.t a.o a.o.count at.start at.finish at.number = rw e at at.invariant.3 in
+    (ranked, by_rank_fits a.t a.o c.requires _ _ _ _ at.invariant.0 at.invariant.1 at.invariant.2 ranked)

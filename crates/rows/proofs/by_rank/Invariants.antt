@@ -1,5 +1,4 @@
 -- The loop's invariant: the ranks passed have the numbers of their runs, and the others 0.
-use Prim.Native.Nat.{◌-◌, ◌≤◌}
 use mathlib.Core.Path.{◌≡◌}
 use lib.ListN.{length}
 use Rattle.rows.specs.ByRank.{ByRank}
@@ -7,7 +6,4 @@ use Rattle.rows.proofs.by_rank.Given as goal
 
 abbrev pub invariant-loop-i : goal.invariant-loop-i
 invariant-loop-i l =
-    (l.i ≤ l.o.count) × (length l.start ≡ 128) × (length l.finish ≡ 128) × (length l.number ≡ 128) × ByRank l.t l.o l.i l.start l.finish l.number
-
-abbrev pub decreases-loop-i : goal.decreases-loop-i
-decreases-loop-i l = l.o.count - l.i
+    (length l.start ≡ 128) × (length l.finish ≡ 128) × (length l.number ≡ 128) × ByRank l.t l.o l.i l.start l.finish l.number

@@ -1,5 +1,5 @@
 -- Each place passed has the number that the search for its label finds.
-use Prim.Native.Nat.{ℕ, ◌<◌, ◌≤◌, ◌-◌}
+use Prim.Native.Nat.{ℕ, ◌<◌}
 use mathlib.Core.Path.{◌≡◌}
 use lib.ListN.{length, get_or}
 use Rattle.labels.specs.Label.{label_of}
@@ -9,7 +9,4 @@ use Rattle.logic.specs.Shown.{slot_number}
 use Rattle.logic.proofs.shown.wanted_numbers.Given as goal
 
 abbrev pub invariant-loop-p : goal.invariant-loop-p
-invariant-loop-p l = (l.p ≤ l.count) × ((length l.numbers ≡ 16) × ((k : ℕ) → k < l.p → get_or l.numbers k 0 ≡ slot_number (lookup l.t (label_of (label_bytes l.file k)))))
-
-abbrev pub decreases-loop-p : goal.decreases-loop-p
-decreases-loop-p l = l.count - l.p
+invariant-loop-p l = (length l.numbers ≡ 16) × ((k : ℕ) → k < l.p → get_or l.numbers k 0 ≡ slot_number (lookup l.t (label_of (label_bytes l.file k))))

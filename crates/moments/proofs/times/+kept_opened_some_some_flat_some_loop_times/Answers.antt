@@ -66,22 +66,20 @@ pub some_loop-loop-r-preserved : goal.some_loop-loop-r-preserved
 some_loop-loop-r-preserved t c = let a = c.args in
     let r = c.loop-r.r in
     let few = c.requires.ready.runs_few in
-    let f = formula_at a.file.now a.first a.child in (
-      omega arith,
-      λ M rows dropped.
-          let Next : RunSet → Type 0 = λ g. Tried M f (binding a.b) a.v a.dom g (r + 1) in
-          let old = c.loop-r.invariant.1 M rows dropped in
-          let left = c.left_of-left.ensures in
-          let l : r < M.runs = omega (arith, rows.runs_are) in
-          elim c.if-not-none.branch [
-            | some_loop-then-not-none w ↦ subst Next (sym w.got-is) (tried_more M f (binding a.b) a.v a.dom _ _ _ r dropped l left old _ _ (binding w.rebound-at_r.result) (omega arith) w.rebound-at_r.ensures (w.times-found.ensures M rows) w.join-got.ensures)
-            | some_loop-else-not-none w ↦ subst Next (sym w.got-is) (tried_skip M f (binding a.b) a.v a.dom _ _ _ r dropped l left old (c.none.ensures.yes w.if-not-none.false))
-          ],
-    )
+    let f = formula_at a.file.now a.first a.child in
+    λ M rows dropped.
+    let Next : RunSet → Type 0 = λ g. Tried M f (binding a.b) a.v a.dom g (r + 1) in
+    let old = c.loop-r.invariant M rows dropped in
+    let left = c.left_of-left.ensures in
+    let l : r < M.runs = omega (arith, rows.runs_are) in
+    elim c.if-not-none.branch [
+      | some_loop-then-not-none w ↦ subst Next (sym w.got-is) (tried_more M f (binding a.b) a.v a.dom _ _ _ r dropped l left old _ _ (binding w.rebound-at_r.result) (omega arith) w.rebound-at_r.ensures (w.times-found.ensures M rows) w.join-got.ensures)
+      | some_loop-else-not-none w ↦ subst Next (sym w.got-is) (tried_skip M f (binding a.b) a.v a.dom _ _ _ r dropped l left old (c.none.ensures.yes w.if-not-none.false))
+    ]
 
 pub some_loop-returns : goal.some_loop-returns
 some_loop-returns t c = let a = c.args in
-    λ M rows dropped. tried_all M (formula_at a.file.now a.first a.child) (binding a.b) a.v a.dom _ c.loop-r.r (omega (arith, rows.runs_are)) (c.loop-r.invariant.1 M rows dropped)
+    λ M rows dropped. tried_all M (formula_at a.file.now a.first a.child) (binding a.b) a.v a.dom _ c.loop-r.r (omega (arith, rows.runs_are)) (c.loop-r.invariant M rows dropped)
 
 -- times
 pub times-returns-then-none : goal.times-returns-then-none

@@ -1,7 +1,7 @@
 -- The evaluator. Each call goes to a smaller node or, at one node, on to the next function in the order some, some_loop, kept,
 -- opened or some_flat, times; the search by rows is no part of the cycle. The loop of "some" has tried the runs below r, and each moment
 -- of dom at which one of them serves is in got.
-use Rattle.std.proofs.Common.{◌+◌, ◌*◌, ◌-◌, ◌≤◌}
+use Rattle.std.proofs.Common.{◌+◌, ◌*◌}
 use Rattle.rules.specs.Table.{formula_at}
 use Rattle.logic.specs.Model.{Model}
 use Rattle.row_table.specs.Truth.{FalseWithout}
@@ -29,8 +29,5 @@ abbrev pub decreases-times : goal.decreases-times
 decreases-times l = 5 * l.node
 
 abbrev pub invariant-some_loop-loop-r : goal.invariant-some_loop-loop-r
-invariant-some_loop-loop-r l = (l.r ≤ l.runs)
-    × ((M : Model) → RowsOf l.table l.file l.runs M → FalseWithout M (formula_at l.file l.first l.child) (binding l.b) l.v l.keep → Tried M (formula_at l.file l.first l.child) (binding l.b) l.v l.dom l.got l.r)
-
-abbrev pub decreases-some_loop-loop-r : goal.decreases-some_loop-loop-r
-decreases-some_loop-loop-r l = l.runs - l.r
+invariant-some_loop-loop-r l =
+    (M : Model) → RowsOf l.table l.file l.runs M → FalseWithout M (formula_at l.file l.first l.child) (binding l.b) l.v l.keep → Tried M (formula_at l.file l.first l.child) (binding l.b) l.v l.dom l.got l.r

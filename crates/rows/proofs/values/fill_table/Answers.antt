@@ -5,22 +5,22 @@ use Rattle.rows.proofs.Given.{filled_none, filled_more}
 use Rattle.rows.proofs.values.fill_table.Goals as goal
 
 pub loop-r-init : goal.loop-r-init
-loop-r-init c = (omega arith, refl, filled_none _ _ _ _ _ _)
+loop-r-init c = (refl, filled_none _ _ _ _ _ _)
 
 pub row_of-s-requires : goal.row_of-s-requires
 row_of-s-requires c = record { r_lt_table_rows = (omega arith, c.requires.ranks.0, c.requires.ranks.1); tables = c.requires.tables }
 
 pub store_row-requires : goal.store_row-requires
 store_row-requires c = let long = c.requires.ranks.2 in
-    let same = c.loop-r.invariant.1 in
+    let same = c.loop-r.invariant.0 in
     omega arith
 
 pub loop-r-preserved : goal.loop-r-preserved
 loop-r-preserved c = let at = c.loop-r in
     let d = c.store_row.ensures in
-    (omega arith, d.long ∙ at.invariant.1, filled_more _ _ _ _ _ _ at.table _ at.r _ at.invariant.2 d c.row_of-s.ensures)
+    (d.long ∙ at.invariant.0, filled_more _ _ _ _ _ _ at.table _ at.r _ at.invariant.1 d c.row_of-s.ensures)
 
 pub returns : goal.returns
 returns c = let at = c.loop-r in
     let e : at.r ≡ 1092 = omega arith in
-    rw e at at.invariant.2
+    rw e at at.invariant.1

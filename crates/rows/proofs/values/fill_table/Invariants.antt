@@ -1,5 +1,4 @@
 -- The loop's invariant: the rows passed hold their values, and the others are as they were.
-use Prim.Native.Nat.{◌-◌, ◌≤◌}
 use mathlib.Core.Path.{◌≡◌}
 use lib.ListN.{length}
 use Rattle.rows.specs.Values.{Filled}
@@ -7,7 +6,4 @@ use Rattle.rows.proofs.values.fill_table.Given as goal
 
 abbrev pub invariant-loop-r : goal.invariant-loop-r
 invariant-loop-r l =
-    (l.r ≤ 1092) × (length l.table ≡ length l.initial.table) × Filled l.start l.finish l.number l.wanted l.labels l.initial.table l.table l.r
-
-abbrev pub decreases-loop-r : goal.decreases-loop-r
-decreases-loop-r l = 1092 - l.r
+    (length l.table ≡ length l.initial.table) × Filled l.start l.finish l.number l.wanted l.labels l.initial.table l.table l.r

@@ -17,7 +17,8 @@ use Rattle.rules.specs.Parts.{byte, label_count, read_mark, read_version, read_h
 use Rattle.rules.specs.Labels.{label_start, label_from, label_bytes, listed, read_label, read_labels}
 use Rattle.rules.specs.Table.{node_at, fields_ok, read_node, read_nodes}
 use Rattle.rules.specs.declared.Node.{Node}
-use Rattle.rules.specs.declared.Read.TheVariants.{At, Refused}
+use Rattle.std.specs.Prelude.{Ok, Err}
+use Rattle.refusals.specs.declared.Refusal.TheVariants.{RuleEndsEarly, RuleLabel, RuleNode}
 use Rattle.rules.proofs.Parts.{part_short, part_bad, part_ok, mark_ok, version_ok, labels_ok, head_count}
 use Rattle.rules.proofs.Labels.{label_none, label_empty, label_long, label_cut, label_letter, label_twice, label_ok, labels_next, bytes_part, place_next}
 use Rattle.rules.proofs.Nodes.{nodes_first, nodes_next}
@@ -31,10 +32,10 @@ use Rattle.grammar.proofs.LayoutLaws.{Stands, stands_byte, stands_next, stands_f
 pub byte_of : (file s : List ℕ) → file ≡ s → (p : ℕ) → byte file p ≡ byte s p
 byte_of file s e p = ap (λ (f : List ℕ). byte f p) e
 
-pub mark_read : (file rest : List ℕ) → file ≡ bytes "RUL" ++ rest → At 3 ≡ read_mark file
+pub mark_read : (file rest : List ℕ) → file ≡ bytes "RUL" ++ rest → Ok 3 ≡ read_mark file
 mark_read file rest e = mark_ok file (omega (arith, ap length e)) (byte_of file _ e 0) (byte_of file _ e 1) (byte_of file _ e 2)
 
-pub version_read : (file rest : List ℕ) → file ≡ bytes "RUL" ++ (1 ∷ 0 ∷ rest) → At 5 ≡ read_version file
+pub version_read : (file rest : List ℕ) → file ≡ bytes "RUL" ++ (1 ∷ 0 ∷ rest) → Ok 5 ≡ read_version file
 version_read file rest e = version_ok file (omega (arith, ap length e)) (omega (arith, byte_of file _ e 3, byte_of file _ e 4))
 
 module _ (file : List ℕ) (k : ℕ) (more : List ℕ) (is : file ≡ front k ++ more) where
@@ -44,9 +45,9 @@ module _ (file : List ℕ) (k : ℕ) (more : List ℕ) (is : file ≡ front k ++
   pub front-stands : Stands file 6 more
   front-stands = record { size = omega (arith, ap length is); from = ap (drop 6) is }
 
-  pub front_read : k ≤ 16 → At 6 ≡ read_head file
+  pub front_read : k ≤ 16 → Ok 6 ≡ read_head file
   front_read h =
-      head_count file (At 3) (At 5) 3 5 (At 6)
+      head_count file (Ok 3) (Ok 5) 3 5 (Ok 6)
       (mark_read file (1 ∷ 0 ∷ k ∷ more) is) refl
       (version_read file (k ∷ more) is) refl
       (labels_ok file (omega (arith, ap length is)) (omega (arith, front_count)))
@@ -54,7 +55,7 @@ module _ (file : List ℕ) (k : ℕ) (more : List ℕ) (is : file ≡ front k ++
 -- ── labels ──
 -- the labels ls are read, and rest follows at place p
 pub record LabelsTo (file : List ℕ) (ls : List (List ℕ)) (p : ℕ) (rest : List ℕ) : Type 0 where
-  pub read : read_labels file (length ls) ≡ At p
+  pub read : read_labels file (length ls) ≡ Ok p
   pub place : p ≡ label_start file (length ls)
   pub bytes : (i : ℕ) → i < length ls → label_bytes file i ≡ capitals (get_or ls i [])
   pub stands : Stands file p rest
@@ -81,7 +82,7 @@ module _ {file : List ℕ} {ls : List (List ℕ)} {p : ℕ} {rest : List ℕ} (t
 
 -- the next label is cut before or in its bytes, or its length byte is wrong
 module _ {file : List ℕ} {ls : List (List ℕ)} {p : ℕ} where
-  pub no_length : LabelsTo file ls p [] → Refused 1 ≡ read_label file (length ls) p
+  pub no_length : LabelsTo file ls p [] → Err RuleEndsEarly ≡ read_label file (length ls) p
   no_length t =
       let s = t.stands.size in
       label_none file (length ls) p (omega arith) (omega arith)
@@ -90,13 +91,13 @@ module _ {file : List ℕ} {ls : List (List ℕ)} {p : ℕ} where
     said : byte file p ≡ n
     said = stands_byte t.stands
 
-    pub length_zero : n ≡ 0 → Refused 5 ≡ read_label file (length ls) p
+    pub length_zero : n ≡ 0 → Err RuleLabel ≡ read_label file (length ls) p
     length_zero e = let s = t.stands.size in label_empty file (length ls) p (omega arith) (omega arith) (omega (arith, said))
 
-    pub length_above : 24 < n → Refused 5 ≡ read_label file (length ls) p
+    pub length_above : 24 < n → Err RuleLabel ≡ read_label file (length ls) p
     length_above h = let s = t.stands.size in label_long file (length ls) p (omega arith) (omega arith) (omega (arith, said)) (omega (arith, said))
 
-    pub bytes_cut : 1 ≤ n → n ≤ 24 → length rest < n → Refused 1 ≡ read_label file (length ls) p
+    pub bytes_cut : 1 ≤ n → n ≤ 24 → length rest < n → Err RuleEndsEarly ≡ read_label file (length ls) p
     bytes_cut low high h =
         let s = t.stands.size in
         label_cut file (length ls) p (omega arith) (omega arith) (omega (arith, said)) (omega (arith, said)) (omega (arith, said))
@@ -115,7 +116,7 @@ module _ {file : List ℕ} {ls : List (List ℕ)} {p : ℕ} (l rest : List ℕ) 
   within : length file ≡ p + 1 + length l + length rest
   within = behind.size
 
-  pub wrong_form : label_form? (capitals l) ≡ false → Refused 5 ≡ read_label file (length ls) p
+  pub wrong_form : label_form? (capitals l) ≡ false → Err RuleLabel ≡ read_label file (length ls) p
   wrong_form e =
       label_letter file (length ls) p (omega (arith, within)) (omega (arith, within)) (omega (arith, size)) (omega (arith, size)) (omega (arith, size, within)) false
       (sym (ap label_form? (bytes_part file p ∙ text) ∙ e)) refl
@@ -124,15 +125,15 @@ module _ {file : List ℕ} {ls : List (List ℕ)} {p : ℕ} (l rest : List ℕ) 
     says : true ≡ label_form? (capitals (take (p + 1 + byte file p - (p + 1)) (drop (p + 1) file)))
     says = sym (ap label_form? (bytes_part file p ∙ text) ∙ form)
 
-    pub twice-listed : listed file (length ls) (capitals l) ≡ true → Refused 5 ≡ read_label file (length ls) p
+    pub twice-listed : listed file (length ls) (capitals l) ≡ true → Err RuleLabel ≡ read_label file (length ls) p
     twice-listed e =
         label_twice file (length ls) p (omega (arith, within)) (omega (arith, within)) (omega (arith, size)) (omega (arith, size)) (omega (arith, size, within)) true says
         true refl (sym (ap (listed file (length ls)) text ∙ e)) refl
 
     module _ (new : listed file (length ls) (capitals l) ≡ false) where
-      taken : At (p + 1 + length l) ≡ read_label file (length ls) p
+      taken : Ok (p + 1 + length l) ≡ read_label file (length ls) p
       taken =
-          ap (λ (n : ℕ). At (p + 1 + n)) (sym size)
+          ap (λ (n : ℕ). Ok (p + 1 + n)) (sym size)
           ∙ label_ok file (length ls) p (omega (arith, within)) (omega (arith, within)) (omega (arith, size)) (omega (arith, size)) (omega (arith, size, within)) true says
           false refl (sym (ap (listed file (length ls)) text ∙ new)) refl
 
@@ -142,7 +143,7 @@ module _ {file : List ℕ} {ls : List (List ℕ)} {p : ℕ} (l rest : List ℕ) 
       pub one_label_more : LabelsTo file (ls ++ (l ∷ [])) (p + 1 + length l) rest
       one_label_more =
           record {
-            read = subst (λ (n : ℕ). read_labels file n ≡ At (p + 1 + length l)) one_more (labels_next file (length ls) p _ t.read taken _ refl);
+            read = subst (λ (n : ℕ). read_labels file n ≡ Ok (p + 1 + length l)) one_more (labels_next file (length ls) p _ t.read taken _ refl);
             place = ap (λ (n : ℕ). p + 1 + n) (sym size) ∙ (place_next file (length ls) p t.place ∙ ap (label_start file) one_more);
             bytes = more-each [] ls l (λ i x. label_bytes file i ≡ capitals x) t.bytes (ap (label_from file) (sym t.place) ∙ text);
             stands = behind;
@@ -214,21 +215,21 @@ module _ {file : List ℕ} {q k : ℕ} {xs : List Node} {rest : List ℕ} (t : N
   tested : (i : ℕ) (x : Node) → node_at file q i ≡ x → fields_ok (label_count file) i (node_at file q i) ≡ fields_ok k i x
   tested i x e = ap₂ (λ (l : ℕ) (y : Node). fields_ok l i y) t.labels e
 
-  pub nodes_are_read : (i : ℕ) → i ≤ length xs → read_nodes file q i ≡ At (q + 3 * i)
+  pub nodes_are_read : (i : ℕ) → i ≤ length xs → read_nodes file q i ≡ Ok (q + 3 * i)
   nodes_are_read zero h = nodes_first file q
   nodes_are_read (suc i) h =
       let s = t.stands.size in
       let ok = tested i (node_of xs i) (t.agree i (omega arith)) ∙ range_ok k i (node_of xs i) (t.right i (omega arith)) in
-      subst (λ (n : ℕ). read_nodes file q n ≡ At (q + 3 * n)) (add-one i)
-      (nodes_next file q i _ _ (nodes_are_read i (omega arith)) (part_ok file (q + 3 * i) 3 _ 6 (omega arith) ok) _ refl)
+      subst (λ (n : ℕ). read_nodes file q n ≡ Ok (q + 3 * n)) (add-one i)
+      (nodes_next file q i _ _ (nodes_are_read i (omega arith)) (part_ok file (q + 3 * i) 3 _ RuleNode (omega arith) ok) _ refl)
 
   -- the next node is cut, or its kind or a field is not in range
-  pub node_is_cut : length rest < 3 → Refused 1 ≡ read_node file q (length xs)
-  node_is_cut h = let s = t.stands.size in part_short file (q + 3 * length xs) 3 _ 6 (omega arith)
+  pub node_is_cut : length rest < 3 → Err RuleEndsEarly ≡ read_node file q (length xs)
+  node_is_cut h = let s = t.stands.size in part_short file (q + 3 * length xs) 3 _ RuleNode (omega arith)
 
 pub node_is_wrong : {file : List ℕ} {q k : ℕ} {xs : List Node} (x : Node) (rest : List ℕ) → NodesTo file q k xs (x.kind ∷ x.a ∷ x.b ∷ rest) → (InRange k (length xs) x → ⊥)
-    → Refused 6 ≡ read_node file q (length xs)
+    → Err RuleNode ≡ read_node file q (length xs)
 node_is_wrong {file} {q} {k} {xs} x rest t n =
     let s = t.stands.size in
     let wrong : fields_ok k (length xs) x ≡ false = either_bool (fields_ok k (length xs) x) (λ e. absurd (n (ok_range k (length xs) x e))) (λ e. e) in
-    part_bad file (q + 3 * length xs) 3 _ 6 (omega arith) (tested t (length xs) x (node_here q (length xs) x rest t.stands) ∙ wrong)
+    part_bad file (q + 3 * length xs) 3 _ RuleNode (omega arith) (tested t (length xs) x (node_here q (length xs) x rest t.stands) ∙ wrong)

@@ -18,7 +18,10 @@ use Rattle.rules.specs.Checks.{named_once, root_formula, whole_table}
 use Rattle.rules.specs.Rules.{rule_of}
 use Rattle.rules.specs.declared.Node.{Node}
 use Rattle.rules.specs.declared.Rule.{Rule}
-use Rattle.rules.specs.declared.Read.TheVariants.{At, Refused}
+use Rattle.refusals.specs.Refusal.{number}
+use Rattle.std.specs.Prelude.{Ok, Err}
+use Rattle.refusals.specs.declared.Refusal.{Refusal}
+use Rattle.refusals.specs.declared.Refusal.TheVariants.{RuleEndsEarly, RuleMark, RuleVersion, RuleCount, RuleLabel, RuleNode}
 use Rattle.rules.specs.declared.RuleRead.{RuleRead}
 use Rattle.rules.proofs.Parts.{mark_short, mark_r, mark_u, mark_l, version-short, version_bad, labels_short, labels_many, head_mark, head_version, head_count, count_short, count_none, count_many, count_ok}
 use Rattle.rules.proofs.Labels.{labels_stop}
@@ -42,13 +45,13 @@ none_left (x ∷ l) e = absurd (omega arith)
 
 -- ── the front ──
 module _ (file : List ℕ) where
-  head_refuses : (c : ℕ) → Refused c ≡ read_head file → Refuses file c
-  head_refuses c h = sym (rule_head file (Refused c) h c refl)
+  head_refuses : (e : Refusal) → Err e ≡ read_head file → Refuses file (number e)
+  head_refuses e h = sym (rule_head file (Err e) h e refl)
 
-  mark_refuses : (c : ℕ) → Refused c ≡ read_mark file → Refuses file c
-  mark_refuses c h = head_refuses c (head_mark file (Refused c) (At 0) c h refl)
+  mark_refuses : (e : Refusal) → Err e ≡ read_mark file → Refuses file (number e)
+  mark_refuses e h = head_refuses e (head_mark file (Err e) e h refl)
 
-  mark_wrong : (m rest : List ℕ) → file ≡ m ++ rest → length m ≡ 3 → m ≢ bytes "RUL" → Refused 2 ≡ read_mark file
+  mark_wrong : (m rest : List ℕ) → file ≡ m ++ rest → length m ≡ 3 → m ≢ bytes "RUL" → Err RuleMark ≡ read_mark file
   mark_wrong [] rest e h n = absurd (omega arith)
   mark_wrong (a ∷ []) rest e h n = absurd (omega arith)
   mark_wrong (a ∷ b ∷ []) rest e h n = absurd (omega arith)
@@ -66,34 +69,34 @@ module _ (file : List ℕ) where
       (λ r. mark_r file long (λ z. r (sym (at 0) ∙ z)))
   mark_wrong (a ∷ b ∷ c ∷ d ∷ m) rest e h n = absurd (omega arith)
 
-  version-refuses : (c : ℕ) (rest : List ℕ) → file ≡ bytes "RUL" ++ rest → Refused c ≡ read_version file → Refuses file c
-  version-refuses c rest e h = head_refuses c (head_version file (At 3) (Refused c) c 3 (mark_read file rest e) refl h refl)
+  version-refuses : (r : Refusal) (rest : List ℕ) → file ≡ bytes "RUL" ++ rest → Err r ≡ read_version file → Refuses file (number r)
+  version-refuses r rest e h = head_refuses r (head_version file (Ok 3) (Err r) r 3 (mark_read file rest e) refl h refl)
 
-  count_refuses : (c : ℕ) (rest : List ℕ) → file ≡ bytes "RUL" ++ (1 ∷ 0 ∷ rest) → Refused c ≡ read_label_count file → Refuses file c
-  count_refuses c rest e h =
-      head_refuses c (head_count file (At 3) (At 5) 3 5 (Refused c) (mark_read file (1 ∷ 0 ∷ rest) e) refl (version_read file rest e) refl h)
+  count_refuses : (r : Refusal) (rest : List ℕ) → file ≡ bytes "RUL" ++ (1 ∷ 0 ∷ rest) → Err r ≡ read_label_count file → Refuses file (number r)
+  count_refuses r rest e h =
+      head_refuses r (head_count file (Ok 3) (Ok 5) 3 5 (Err r) (mark_read file (1 ∷ 0 ∷ rest) e) refl (version_read file rest e) refl h)
 
 -- ── the labels ──
 -- A fault at the label behind ls refuses the file.
 module _ {file : List ℕ} {k : ℕ} {ls : List (List ℕ)} {rest : List ℕ} (u : UpToLabel file k ls rest) where
-  head : At 6 ≡ read_head file
+  head : Ok 6 ≡ read_head file
   head = front_read file k (labels_part ls ++ rest) u.is u.count
 
   counted : label_count file ≡ k
   counted = front_count file k (labels_part ls ++ rest) u.is
 
-  label_refuses : (c p : ℕ) → LabelsTo file ls p rest → length ls < k → Refused c ≡ read_label file (length ls) p → Refuses file c
-  label_refuses c p t h f =
-      sym (rule_labels file (At 6) head 6 refl (Refused c) (labels_stop file (length ls) p _ t.read f c (label_count file) refl (omega (arith, counted))) c refl)
+  label_refuses : (e : Refusal) (p : ℕ) → LabelsTo file ls p rest → length ls < k → Err e ≡ read_label file (length ls) p → Refuses file (number e)
+  label_refuses e p t h f =
+      sym (rule_labels file (Ok 6) head 6 refl (Err e) (labels_stop file (length ls) p _ t.read f e (label_count file) refl (omega (arith, counted))) e refl)
 
 -- ── the node count ──
 -- A fault at the byte behind all labels refuses the file.
 module _ {file : List ℕ} {ls : List (List ℕ)} {rest : List ℕ} (u : UpToLabel file (length ls) ls rest) {p : ℕ} (t : LabelsTo file ls p rest) where
-  listing : At p ≡ read_labels file (label_count file)
+  listing : Ok p ≡ read_labels file (label_count file)
   listing = sym (ap (read_labels file) (counted u) ∙ t.read)
 
-  number-refuses : (c : ℕ) → Refused c ≡ read_node_count file p → Refuses file c
-  number-refuses c f = sym (rule_count file (At 6) (head u) 6 refl (At p) listing p refl (Refused c) f c refl)
+  number-refuses : (e : Refusal) → Err e ≡ read_node_count file p → Refuses file (number e)
+  number-refuses e f = sym (rule_count file (Ok 6) (head u) 6 refl (Ok p) listing p refl (Err e) f e refl)
 
 -- ── the nodes ──
 -- A fault at the node behind xs refuses the file, and so do bytes behind the last one.
@@ -114,30 +117,30 @@ module _ {file : List ℕ} {ls : List (List ℕ)} {n : ℕ} {xs : List Node} {re
   unfolding place
   listed_to = (labels_to up_to_count).1
 
-  number : byte file place ≡ n
-  number = stands_byte listed_to.stands
+  count_is : byte file place ≡ n
+  count_is = stands_byte listed_to.stands
 
-  numbered : At (place + 1) ≡ read_node_count file place
+  numbered : Ok (place + 1) ≡ read_node_count file place
   numbered =
       let s = listed_to.stands.size in
-      count_ok file place (omega arith) (omega (arith, number, u.some)) (omega (arith, number, u.few))
+      count_ok file place (omega arith) (omega (arith, count_is, u.some)) (omega (arith, count_is, u.few))
 
   pub nodes : NodesTo file (place + 1) (length ls) xs rest
   nodes = nodes_to xs rest (counted up_to_count) (stands_next listed_to.stands) u.nodes
 
-  node_refuses : (c : ℕ) → length xs < n → Refused c ≡ read_node file (place + 1) (length xs) → Refuses file c
-  node_refuses c h f =
-      sym (rule_nodes file (At 6) (head up_to_count) 6 refl (At place) (listing up_to_count listed_to) place refl (At (place + 1)) numbered (place + 1) refl (Refused c)
-      (nodes_stop file (place + 1) (length xs) _ _ (nodes_are_read nodes (length xs) (omega arith)) f c (byte file place) refl (omega (arith, number))) c refl)
+  node_refuses : (e : Refusal) → length xs < n → Err e ≡ read_node file (place + 1) (length xs) → Refuses file (number e)
+  node_refuses e h f =
+      sym (rule_nodes file (Ok 6) (head up_to_count) 6 refl (Ok place) (listing up_to_count listed_to) place refl (Ok (place + 1)) numbered (place + 1) refl (Err e)
+      (nodes_stop file (place + 1) (length xs) _ _ (nodes_are_read nodes (length xs) (omega arith)) f e (byte file place) refl (omega (arith, count_is))) e refl)
 
   -- the place behind the last node
   module _ (all : length xs ≡ n) where
     end : ℕ
     end = place + 1 + 3 * length xs
 
-    whole : At end ≡ read_nodes file (place + 1) (byte file place)
+    whole : Ok end ≡ read_nodes file (place + 1) (byte file place)
     unfolding end
-    whole = sym (ap (read_nodes file (place + 1)) (number ∙ sym all) ∙ nodes_are_read nodes (length xs) (omega arith))
+    whole = sym (ap (read_nodes file (place + 1)) (count_is ∙ sym all) ∙ nodes_are_read nodes (length xs) (omega arith))
 
     after : length file ≡ end + length rest
     unfolding end
@@ -145,15 +148,15 @@ module _ {file : List ℕ} {ls : List (List ℕ)} {n : ℕ} {xs : List Node} {re
 
     more-refuses : rest ≢ [] → Refuses file 7
     more-refuses m =
-        sym (rule_more file (At 6) (head up_to_count) 6 refl (At place) (listing up_to_count listed_to) place refl (At (place + 1)) numbered (place + 1) refl (At end) whole end refl
+        sym (rule_more file (Ok 6) (head up_to_count) 6 refl (Ok place) (listing up_to_count listed_to) place refl (Ok (place + 1)) numbered (place + 1) refl (Ok end) whole end refl
         (λ e. m (none_left rest (omega (arith, after)))))
 
 -- ── the whole table ──
 module _ {file : List ℕ} {ls : List (List ℕ)} {xs : List Node} (u : UpToNode file ls (length xs) xs []) where
   table_is : (y : RuleRead) → y ≡ whole_table file (place u + 1) (length xs) → rule_of file ≡ y
   table_is y e =
-      sym (rule_whole file (At 6) (head (up_to_count u)) 6 refl (At (place u)) (listing (up_to_count u) (listed_to u)) (place u) refl (At (place u + 1)) (numbered u) (place u + 1) refl
-      (At (end u refl)) (whole u refl) (end u refl) refl y (omega (arith, after u refl)) (e ∙ ap (whole_table file (place u + 1)) (sym (number u))))
+      sym (rule_whole file (Ok 6) (head (up_to_count u)) 6 refl (Ok (place u)) (listing (up_to_count u) (listed_to u)) (place u) refl (Ok (place u + 1)) (numbered u) (place u + 1) refl
+      (Ok (end u refl)) (whole u refl) (end u refl) refl y (omega (arith, after u refl)) (e ∙ ap (whole_table file (place u + 1)) (sym (count_is u))))
 
   -- the tests of the whole table, and what they say
   abbrev pub once : Bool
@@ -205,28 +208,28 @@ module _ {file : List ℕ} {ls : List (List ℕ)} {xs : List Node} (u : UpToNode
 -- ── a file that meets a refusal is refused with it ──
 module _ {file : List ℕ} {k : ℕ} {ls : List (List ℕ)} (l rest : List ℕ) (u : UpToLabel file k ls (length l ∷ (l ++ rest))) (h : length ls < k) (low : 1 ≤ length l) (high : length l ≤ 24) where
   form_refuses : label_form? (capitals l) ≡ false → Refuses file 5
-  form_refuses e = let t = labels_to u in label_refuses u 5 t.0 t.1 h (wrong_form l rest t.1 low high e)
+  form_refuses e = let t = labels_to u in label_refuses u RuleLabel t.0 t.1 h (wrong_form l rest t.1 low high e)
 
   bytes_refuse : WrongBytes ls l → Refuses file 5
   bytes_refuse (wrong w) = form_refuses ((no_form_wrong (capitals l) (omega (arith, low, length-map l capital))).1 w)
   bytes_refuse (twice i j e) =
       let t = labels_to u in
       either_bool (label_form? (capitals l))
-      (λ f. label_refuses u 5 t.0 t.1 h (twice-listed l rest t.1 low high f (listed_yes t.1 (capitals l) i j e)))
+      (λ f. label_refuses u RuleLabel t.0 t.1 h (twice-listed l rest t.1 low high f (listed_yes t.1 (capitals l) i j e)))
       form_refuses
 
 length-refuses : {file : List ℕ} {k n : ℕ} {ls : List (List ℕ)} {rest : List ℕ} → UpToLabel file k ls (n ∷ rest) → length ls < k → WrongLength n → Refuses file 5
-length-refuses u h (zero-length e) = let t = labels_to u in label_refuses u 5 t.0 t.1 h (length_zero t.1 e)
-length-refuses u h (above e) = let t = labels_to u in label_refuses u 5 t.0 t.1 h (length_above t.1 e)
+length-refuses u h (zero-length e) = let t = labels_to u in label_refuses u RuleLabel t.0 t.1 h (length_zero t.1 e)
+length-refuses u h (above e) = let t = labels_to u in label_refuses u RuleLabel t.0 t.1 h (length_above t.1 e)
 
 node_count_refuses : {file : List ℕ} {n : ℕ} {ls : List (List ℕ)} {rest : List ℕ} → UpToLabel file (length ls) ls (n ∷ rest) → WrongCount n → Refuses file 4
 node_count_refuses {file} {n} u w =
     let t = labels_to u in
     let s = t.1.stands.size in
     let e = stands_byte t.1.stands in
-    number-refuses u t.1 4 (go t.0 e (omega arith) w)
+    number-refuses u t.1 RuleCount (go t.0 e (omega arith) w)
   where
-    go : (p : ℕ) → byte file p ≡ n → p < length file → WrongCount n → Refused 4 ≡ read_node_count file p
+    go : (p : ℕ) → byte file p ≡ n → p < length file → WrongCount n → Err RuleCount ≡ read_node_count file p
     go p e h (none z) = count_none file p h (omega arith)
     go p e h (above-64 z) = count_many file p h (omega arith) (omega arith)
 
@@ -237,22 +240,22 @@ met_refused file c m = go m
     says d r e = r ∙ ap RuleRead.Refused (sym e)
 
     go : MetRule file c → Refuses file c
-    go (mark_cut h e) = says 1 (mark_refuses file 1 (mark_short file h)) e
-    go (mark m rest f h n e) = says 2 (mark_refuses file 2 (mark_wrong file m rest f h n)) e
-    go (version-cut rest f h e) = says 1 (version-refuses file 1 rest f (version-short file (omega (arith, ap length f)))) e
+    go (mark_cut h e) = says 1 (mark_refuses file RuleEndsEarly (mark_short file h)) e
+    go (mark m rest f h n e) = says 2 (mark_refuses file RuleMark (mark_wrong file m rest f h n)) e
+    go (version-cut rest f h e) = says 1 (version-refuses file RuleEndsEarly rest f (version-short file (omega (arith, ap length f)))) e
     go (version low high rest f n e) =
         let bad = version_bad file (omega (arith, ap length f)) (λ z. n (omega (arith, z, byte_of file _ f 3, byte_of file _ f 4))) in
-        says 3 (version-refuses file 3 (low ∷ high ∷ rest) f bad) e
-    go (count_cut f e) = says 1 (count_refuses file 1 [] f (labels_short file (omega (arith, ap length f)))) e
-    go (count k rest f h e) = says 4 (count_refuses file 4 (k ∷ rest) f (labels_many file (omega (arith, ap length f)) (omega (arith, byte_of file _ f 5)))) e
-    go (length_cut k ls u h e) = let t = labels_to u in says 1 (label_refuses u 1 t.0 t.1 h (no_length t.1)) e
+        says 3 (version-refuses file RuleVersion (low ∷ high ∷ rest) f bad) e
+    go (count_cut f e) = says 1 (count_refuses file RuleEndsEarly [] f (labels_short file (omega (arith, ap length f)))) e
+    go (count k rest f h e) = says 4 (count_refuses file RuleCount (k ∷ rest) f (labels_many file (omega (arith, ap length f)) (omega (arith, byte_of file _ f 5)))) e
+    go (length_cut k ls u h e) = let t = labels_to u in says 1 (label_refuses u RuleEndsEarly t.0 t.1 h (no_length t.1)) e
     go (length_byte k ls n rest u h w e) = says 5 (length-refuses u h w) e
-    go (label_cut k ls n rest u h low high cut e) = let t = labels_to u in says 1 (label_refuses u 1 t.0 t.1 h (bytes_cut t.1 low high cut)) e
+    go (label_cut k ls n rest u h low high cut e) = let t = labels_to u in says 1 (label_refuses u RuleEndsEarly t.0 t.1 h (bytes_cut t.1 low high cut)) e
     go (label k ls l rest u h low high w e) = says 5 (bytes_refuse l rest u h low high w) e
-    go (nodes_cut ls u e) = let t = labels_to u in let s = t.1.stands.size in says 1 (number-refuses u t.1 1 (count_short file t.0 (omega arith))) e
+    go (nodes_cut ls u e) = let t = labels_to u in let s = t.1.stands.size in says 1 (number-refuses u t.1 RuleEndsEarly (count_short file t.0 (omega arith))) e
     go (node_count_lem ls n rest u w e) = says 4 (node_count_refuses u w) e
-    go (node_cut ls n xs rest u h cut e) = says 1 (node_refuses u 1 h (node_is_cut (nodes u) cut)) e
-    go (node ls n xs x rest u h bad e) = says 6 (node_refuses u 6 h (node_is_wrong x rest (nodes u) bad)) e
+    go (node_cut ls n xs rest u h cut e) = says 1 (node_refuses u RuleEndsEarly h (node_is_cut (nodes u) cut)) e
+    go (node ls n xs x rest u h bad e) = says 6 (node_refuses u RuleNode h (node_is_wrong x rest (nodes u) bad)) e
     go (follows ls n xs rest u all m e) = says 7 (more-refuses u all m) e
     go (not_once ls xs u n h bad e) = says 8 (once-refuses u ((not_once-says u).1 (n, h, bad))) e
     go (unbound ls xs u o n v used free e) = says 9 (unbound-refuses u ((once-says u).1 o) ((unbound-says u o).1 (n, v, used, free))) e

@@ -18,9 +18,11 @@ use Rattle.rules.specs.Parts.{byte, part, read_mark, read_version, label_count, 
 use Rattle.rules.specs.Labels.{label_start, label_from, label_bytes, listed, read_label, read_labels}
 use Rattle.rules.specs.Table.{Op, op_and, op_not, op_some, op_has, op_none, op_pair, op_of, node_at, fields_ok, read_nodes, shape, formula_from, tree, formula_at}
 use Rattle.rules.specs.Checks.{node_names, times_named, once_below, unless, whole_table}
-use Rattle.rules.specs.Rules.{rule_of, formula_of}
+use Rattle.rules.specs.Rules.{refused, rule_of, formula_of}
 use Rattle.rules.specs.declared.Node.{Node}
-use Rattle.rules.specs.declared.Read.TheVariants.{Refused}
+use Rattle.std.specs.Prelude.{Err}
+use Rattle.refusals.specs.declared.Refusal.{Refusal}
+use Rattle.refusals.specs.declared.Refusal.TheVariants.{RuleMark, RuleVersion, RuleCount, RuleLabel, RuleNode}
 use Rattle.rules.specs.declared.Rule.{Rule}
 use Rattle.rules.specs.declared.RuleRead.{RuleRead}
 use Rattle.rules.proofs.Parts.{then_same, count_read}
@@ -58,21 +60,21 @@ module _ (file file' : List ℕ) (r : RecasedRule file file') where
   behind_same : (p : ℕ) → label_start file (label_count file) ≤ p → byte file p ≡ byte file' p
   behind_same p h = r.others p (behind-outside file p h)
 
-  part_same : (p n m : ℕ) (ok good : Bool) (fault : ℕ) → n ≡ m → ok ≡ good → part file p n ok fault ≡ part file' p m good fault
+  part_same : (p n m : ℕ) (ok good : Bool) (fault : Refusal) → n ≡ m → ok ≡ good → part file p n ok fault ≡ part file' p m good fault
   unfolding part
   part_same p n m ok good fault e f = rw (e, f, length_same) refl
 
   -- ── the front ──
   mark_same : read_mark file ≡ read_mark file'
   mark_same =
-      part_same 0 3 3 _ _ 2 refl
+      part_same 0 3 3 _ _ RuleMark refl
       (λ i. eqb (front_same 0 (omega arith) i) 82 && (eqb (front_same 1 (omega arith) i) 85 && eqb (front_same 2 (omega arith) i) 76))
 
   version_same : read_version file ≡ read_version file'
-  version_same = part_same 3 2 2 _ _ 3 refl (λ i. eqb (front_same 3 (omega arith) i + 256 * front_same 4 (omega arith) i) 1)
+  version_same = part_same 3 2 2 _ _ RuleVersion refl (λ i. eqb (front_same 3 (omega arith) i + 256 * front_same 4 (omega arith) i) 1)
 
   label_count_same : read_label_count file ≡ read_label_count file'
-  label_count_same = part_same 5 1 1 _ _ 4 refl (ap (λ (m : ℕ). leb m max_labels) count_same)
+  label_count_same = part_same 5 1 1 _ _ RuleCount refl (ap (λ (m : ℕ). leb m max_labels) count_same)
 
   -- ── labels ──
   size_same : (n : ℕ) → byte file (label_start file n) ≡ byte file' (label_start file n)
@@ -105,17 +107,17 @@ module _ (file file' : List ℕ) (r : RecasedRule file file') where
   unfolding read_label
   label_same n p e =
       let t : label_from file p ≡ label_from file' p = from_same p e in
-      then_same Refused _ _ _ _
-      (part_same p 1 1 _ _ 5 refl (ap label_length? e))
+      then_same Err _ _ _ _
+      (part_same p 1 1 _ _ RuleLabel refl (ap label_length? e))
       (λ q _.
-      part_same q (byte file p) (byte file' p) _ _ 5 e
+      part_same q (byte file p) (byte file' p) _ _ RuleLabel e
       (ap₂ ◌&&◌ (ap label_form? t) (ap not (ap (listed file n) t ∙ listed_same n (label_from file' p)))))
 
   labels_same : (n : ℕ) → read_labels file n ≡ read_labels file' n
   unfolding read_labels
   labels_same zero = refl
   labels_same (suc n) =
-      then_same Refused _ _ _ _ (labels_same n)
+      then_same Err _ _ _ _ (labels_same n)
       (λ p e.
       let place : label_start file n ≡ p = place_same n ∙ sym (labels_read file' n p e).0 in
       label_same n p (subst (λ (q : ℕ). byte file q ≡ byte file' q) place (size_same n)))
@@ -133,8 +135,8 @@ module _ (file file' : List ℕ) (r : RecasedRule file file') where
     unfolding read_nodes
     nodes_same zero = refl
     nodes_same (suc n) =
-        then_same Refused _ _ _ _ (nodes_same n)
-        (λ _ _. part_same (p + 3 * n) 3 3 _ _ 6 refl (ap₂ (λ (l : ℕ) (x : Node). fields_ok l n x) count_same (node_same n)))
+        then_same Err _ _ _ _ (nodes_same n)
+        (λ _ _. part_same (p + 3 * n) 3 3 _ _ RuleNode refl (ap₂ (λ (l : ℕ) (x : Node). fields_ok l n x) count_same (node_same n)))
 
     shape_same : (o : Op) (a b : ℕ) (f g : ℕ → Formula) → ((c : ℕ) → f c ≡ g c) → shape file o a b f ≡ shape file' o a b g
     shape_same op_and a b f g e = ap₂ both (e a) (e b)
@@ -175,7 +177,7 @@ module _ (file file' : List ℕ) (r : RecasedRule file file') where
         (RuleRead.Rule (record { labels = count_same i; nodes = p; count = n }))))
 
     node_count_same : read_node_count file p ≡ read_node_count file' p
-    node_count_same = part_same p 1 1 _ _ 4 refl (ap (λ (m : ℕ). leb 1 m && leb m max_nodes) (behind_same p h))
+    node_count_same = part_same p 1 1 _ _ RuleCount refl (ap (λ (m : ℕ). leb 1 m && leb m max_nodes) (behind_same p h))
 
   follows_same : (e : ℕ) → nothing_follows file e ≡ nothing_follows file' e
   unfolding nothing_follows
@@ -185,17 +187,17 @@ module _ (file file' : List ℕ) (r : RecasedRule file file') where
   rule_same : rule_of file ≡ rule_of file'
   unfolding rule_of
   rule_same =
-      then_same RuleRead.Refused _ _ _ _ mark_same λ _ _.
-      then_same RuleRead.Refused _ _ _ _ version_same λ _ _.
-      then_same RuleRead.Refused _ _ _ _ label_count_same λ _ _.
-      then_same RuleRead.Refused _ _ _ _ (ap (read_labels file) count_same ∙ labels_same (label_count file')) λ p f.
+      then_same refused _ _ _ _ mark_same λ _ _.
+      then_same refused _ _ _ _ version_same λ _ _.
+      then_same refused _ _ _ _ label_count_same λ _ _.
+      then_same refused _ _ _ _ (ap (read_labels file) count_same ∙ labels_same (label_count file')) λ p f.
       let end : label_start file' (label_count file') ≡ p = sym (labels_read file' (label_count file') p f).0 in
       let place : label_start file (label_count file) ≡ p = ap (label_start file) count_same ∙ (place_same (label_count file') ∙ end) in
       let count : byte file p ≡ byte file' p = behind_same p (omega arith) in
-      then_same RuleRead.Refused _ _ _ _ (node_count_same p (omega arith)) λ q g.
+      then_same refused _ _ _ _ (node_count_same p (omega arith)) λ q g.
       let behind : label_start file (label_count file) ≤ q = omega (arith, (count_read file' p q g).0) in
-      then_same RuleRead.Refused _ _ _ _ (ap (read_nodes file q) count ∙ nodes_same q behind (byte file' p)) λ e _.
-      then_same RuleRead.Refused _ _ _ _ (follows_same e) λ _ _.
+      then_same refused _ _ _ _ (ap (read_nodes file q) count ∙ nodes_same q behind (byte file' p)) λ e _.
+      then_same refused _ _ _ _ (follows_same e) λ _ _.
       ap (whole_table file q) count ∙ whole_same q behind (byte file' p)
 
   inside_same : (p : ℕ) → InLabel file p → InLabel file' p

@@ -5,7 +5,7 @@
 
 ghost use Rattle.rules.specs.Rules.{ReadsRule};
 
-use rules::{LABEL_COUNT_AT, Read, RuleRead};
+use rules::{LABEL_COUNT_AT, RuleRead};
 
 mod checks;
 
@@ -18,25 +18,25 @@ pub fn read_rule(file: &[u8]) -> RuleRead
 {
     let h = rules::front::head(file);
     match h {
-        Read::At(_) => {}
-        Read::Refused(n) => return RuleRead::Refused(n),
+        Ok(_) => {}
+        Err(e) => return RuleRead::Refused(u8::from(e)),
     }
     let labels = file[LABEL_COUNT_AT] as usize;
     let l = rules::file_labels::labels(file, labels);
     let at = match l {
-        Read::At(p) => p,
-        Read::Refused(n) => return RuleRead::Refused(n),
+        Ok(p) => p,
+        Err(e) => return RuleRead::Refused(u8::from(e)),
     };
     let c = rules::table::node_count(file, at);
     let first = match c {
-        Read::At(p) => p,
-        Read::Refused(n) => return RuleRead::Refused(n),
+        Ok(p) => p,
+        Err(e) => return RuleRead::Refused(u8::from(e)),
     };
     let count = file[at] as usize;
     let t = rules::table::nodes(file, labels, first, count);
     let end = match t {
-        Read::At(p) => p,
-        Read::Refused(n) => return RuleRead::Refused(n),
+        Ok(p) => p,
+        Err(e) => return RuleRead::Refused(u8::from(e)),
     };
     if end != file.len() {
         return RuleRead::Refused(7);

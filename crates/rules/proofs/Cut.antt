@@ -17,9 +17,11 @@ use Rattle.rules.specs.Limits.{max_labels, max_nodes}
 use Rattle.rules.specs.Parts.{byte, part, and_then, read_mark, read_version, label_count, read_label_count, read_node_count, nothing_follows}
 use Rattle.rules.specs.Labels.{label_start, label_from, label_bytes, listed, read_label, read_labels, LabelsOk}
 use Rattle.rules.specs.Table.{node_at, fields_ok, read_nodes}
-use Rattle.rules.specs.Rules.{rule_of}
+use Rattle.rules.specs.Rules.{refused, rule_of}
 use Rattle.rules.specs.declared.Node.{Node}
-use Rattle.rules.specs.declared.Read.TheVariants.{Refused}
+use Rattle.std.specs.Prelude.{Err}
+use Rattle.refusals.specs.declared.Refusal.{Refusal}
+use Rattle.refusals.specs.declared.Refusal.TheVariants.{RuleTooLong, RuleMark, RuleVersion, RuleCount, RuleLabel, RuleNode}
 use Rattle.rules.specs.declared.RuleRead.{RuleRead}
 use Rattle.rules.proofs.Parts.{part_read, then-stop, then_same, count_read, more-follows}
 use Rattle.rules.proofs.Labels.{labels_read, place_low}
@@ -27,7 +29,7 @@ use Rattle.rules.proofs.Nodes.{nodes_read}
 
 -- two files of at least 600 bytes, whose first 600 are the same
 module _ (a b : List ℕ) (first : 600 ≤ length a) (second : 600 ≤ length b) (same : (p : ℕ) → p < 600 → byte a p ≡ byte b p) where
-  part_same : (p n m : ℕ) (ok good : Bool) (fault : ℕ) → p + m ≤ 600 → n ≡ m → ok ≡ good → part a p n ok fault ≡ part b p m good fault
+  part_same : (p n m : ℕ) (ok good : Bool) (fault : Refusal) → p + m ≤ 600 → n ≡ m → ok ≡ good → part a p n ok fault ≡ part b p m good fault
   unfolding part
   part_same p n m ok good fault h e f =
       let i : p + m ≤ length a = omega arith in
@@ -69,20 +71,20 @@ module _ (a b : List ℕ) (first : 600 ≤ length a) (second : 600 ≤ length b)
   unfolding read_label
   label_same n p h k o =
       let size : byte a p ≡ byte b p = same p (omega arith) in
-      then_same Refused _ _ _ _
-      (part_same p 1 1 _ _ 5 (omega arith) refl (ap label_length? size))
+      then_same Err _ _ _ _
+      (part_same p 1 1 _ _ RuleLabel (omega arith) refl (ap label_length? size))
       (λ q e.
-      let u = part_read b p 1 _ 5 q e in
+      let u = part_read b p 1 _ RuleLabel q e in
       let high : byte b p ≤ max_label_bytes = leb-true _ _ (and_right (leb 1 (byte b p)) (leb (byte b p) max_label_bytes) u.1.1) in
       let t : label_from a p ≡ label_from b p = from_same p k high in
-      part_same q (byte a p) (byte b p) _ _ 5 (omega (arith, u.0)) size
+      part_same q (byte a p) (byte b p) _ _ RuleLabel (omega (arith, u.0)) size
       (ap₂ ◌&&◌ (ap label_form? t) (ap not (ap (listed a n) t ∙ listed_same n h o (label_from b p)))))
 
   labels_same : (n : ℕ) → n ≤ max_labels → read_labels a n ≡ read_labels b n
   unfolding read_labels
   labels_same zero h = refl
   labels_same (suc n) h =
-      then_same Refused _ _ _ _ (labels_same n (omega arith))
+      then_same Err _ _ _ _ (labels_same n (omega arith))
       (λ p e.
       let w = labels_read b n p e in
       label_same n p (omega arith) (omega (arith, w.0, place_low b n w.1)) w.1)
@@ -99,45 +101,45 @@ module _ (a b : List ℕ) (first : 600 ≤ length a) (second : 600 ≤ length b)
   unfolding read_nodes
   nodes_same p zero h = refl
   nodes_same p (suc n) h =
-      then_same Refused _ _ _ _ (nodes_same p n (omega arith))
+      then_same Err _ _ _ _ (nodes_same p n (omega arith))
       (λ _ _.
-      part_same (p + 3 * n) 3 3 _ _ 6 (omega arith) refl
+      part_same (p + 3 * n) 3 3 _ _ RuleNode (omega arith) refl
       (ap₂ (λ (l : ℕ) (x : Node). fields_ok l n x) (same 5 (omega arith)) (node_same p n (omega arith))))
 
   -- ── the whole ──
-  follows_same : (e : ℕ) (x y : RuleRead) → e < 600 → and_then RuleRead.Refused (nothing_follows a e) (λ _. x) ≡ and_then RuleRead.Refused (nothing_follows b e) (λ _. y)
+  follows_same : (e : ℕ) (x y : RuleRead) → e < 600 → and_then refused (nothing_follows a e) (λ _. x) ≡ and_then refused (nothing_follows b e) (λ _. y)
   follows_same e x y h =
-      sym (then-stop RuleRead.Refused _ 7 _ (more-follows a e (λ k. omega arith))) ∙ then-stop RuleRead.Refused _ 7 _ (more-follows b e (λ k. omega arith))
+      sym (then-stop refused _ RuleTooLong _ (more-follows a e (λ k. omega arith))) ∙ then-stop refused _ RuleTooLong _ (more-follows b e (λ k. omega arith))
 
   mark_same : read_mark a ≡ read_mark b
   mark_same =
-      part_same 0 3 3 _ _ 2 (omega arith) refl
+      part_same 0 3 3 _ _ RuleMark (omega arith) refl
       (λ i. eqb (same 0 (omega arith) i) 82 && (eqb (same 1 (omega arith) i) 85 && eqb (same 2 (omega arith) i) 76))
 
   version_same : read_version a ≡ read_version b
-  version_same = part_same 3 2 2 _ _ 3 (omega arith) refl (λ i. eqb (same 3 (omega arith) i + 256 * same 4 (omega arith) i) 1)
+  version_same = part_same 3 2 2 _ _ RuleVersion (omega arith) refl (λ i. eqb (same 3 (omega arith) i + 256 * same 4 (omega arith) i) 1)
 
   label_count_same : read_label_count a ≡ read_label_count b
-  label_count_same = part_same 5 1 1 _ _ 4 (omega arith) refl (ap (λ (m : ℕ). leb m max_labels) (same 5 (omega arith)))
+  label_count_same = part_same 5 1 1 _ _ RuleCount (omega arith) refl (ap (λ (m : ℕ). leb m max_labels) (same 5 (omega arith)))
 
   node_count_same : (p : ℕ) → p < 600 → read_node_count a p ≡ read_node_count b p
-  node_count_same p h = part_same p 1 1 _ _ 4 (omega arith) refl (ap (λ (m : ℕ). leb 1 m && leb m max_nodes) (same p h))
+  node_count_same p h = part_same p 1 1 _ _ RuleCount (omega arith) refl (ap (λ (m : ℕ). leb 1 m && leb m max_nodes) (same p h))
 
   rule_same : rule_of a ≡ rule_of b
   unfolding rule_of
   rule_same =
-      then_same RuleRead.Refused _ _ _ _ mark_same λ _ _.
-      then_same RuleRead.Refused _ _ _ _ version_same λ _ _.
-      then_same RuleRead.Refused _ _ _ _ label_count_same λ c e.
-      let few : label_count b ≤ max_labels = leb-true _ _ (part_read b 5 1 _ 4 c e).1.1 in
-      then_same RuleRead.Refused _ _ _ _ (ap (read_labels a) (same 5 (omega arith)) ∙ labels_same (label_count b) few) λ p f.
+      then_same refused _ _ _ _ mark_same λ _ _.
+      then_same refused _ _ _ _ version_same λ _ _.
+      then_same refused _ _ _ _ label_count_same λ c e.
+      let few : label_count b ≤ max_labels = leb-true _ _ (part_read b 5 1 _ RuleCount c e).1.1 in
+      then_same refused _ _ _ _ (ap (read_labels a) (same 5 (omega arith)) ∙ labels_same (label_count b) few) λ p f.
       let l = labels_read b (label_count b) p f in
       let low : p ≤ 406 = omega (arith, few, l.0, place_low b (label_count b) l.1) in
       let count : byte a p ≡ byte b p = same p (omega arith) in
-      then_same RuleRead.Refused _ _ _ _ (node_count_same p (omega arith)) λ q g.
+      then_same refused _ _ _ _ (node_count_same p (omega arith)) λ q g.
       let n = count_read b p q g in
       let end : q + 3 * byte b p ≤ 599 = omega (arith, low, n.0, n.1.1.1) in
-      then_same RuleRead.Refused _ _ _ _ (ap (read_nodes a q) count ∙ nodes_same q (byte b p) (omega arith)) λ e h.
+      then_same refused _ _ _ _ (ap (read_nodes a q) count ∙ nodes_same q (byte b p) (omega arith)) λ e h.
       follows_same e _ _ (omega (arith, (nodes_read b q (byte b p) e h).0))
 
 -- THE LAW: nothing past the first 600 bytes of a rule file changes its rule or its refusal.

@@ -17,8 +17,9 @@ use Rattle.labels.proofs.Form.{label?, form_label}
 use Rattle.labels.specs.declared.Label.{Label}
 use Rattle.rules.specs.Parts.{byte, part, and_then}
 use Rattle.rules.specs.Labels.{label_start, label_from, label_bytes, listed, read_label, read_labels, LabelOk, LabelsOk}
-use Rattle.rules.specs.declared.Read.{Read}
-use Rattle.rules.specs.declared.Read.TheVariants.{At, Refused}
+use Rattle.std.specs.Prelude.{Result, Ok, Err}
+use Rattle.refusals.specs.declared.Refusal.{Refusal}
+use Rattle.refusals.specs.declared.Refusal.TheVariants.{RuleEndsEarly, RuleLabel}
 use Rattle.rules.proofs.Parts.{at_inj, part_short, part_bad, part_ok, part_read, then-stop, then_at, both_read}
 
 -- ── places ──
@@ -115,45 +116,45 @@ listed_end file n m at e h k = let q : m ≡ n = omega arith in sym (subst (λ (
 
 -- ── one label ──
 module _ (file : List ℕ) (n at : ℕ) (start : at ≤ length file) where
-  pub label_none : length file - at < 1 → Refused 1 ≡ read_label file n at
+  pub label_none : length file - at < 1 → Err RuleEndsEarly ≡ read_label file n at
   unfolding read_label
-  label_none h = then-stop Refused _ 1 _ (sym (part_short file at 1 _ 5 (omega arith)))
+  label_none h = then-stop Err _ RuleEndsEarly _ (sym (part_short file at 1 _ RuleLabel (omega arith)))
 
   module _ (h : 1 ≤ length file - at) where
-    pub label_empty : byte file at < 1 → Refused 5 ≡ read_label file n at
+    pub label_empty : byte file at < 1 → Err RuleLabel ≡ read_label file n at
     unfolding read_label
-    label_empty k = then-stop Refused _ 5 _ (sym (part_bad file at 1 _ 5 (omega arith) (simp (lt-leb 1 (byte file at) k))))
+    label_empty k = then-stop Err _ RuleLabel _ (sym (part_bad file at 1 _ RuleLabel (omega arith) (simp (lt-leb 1 (byte file at) k))))
 
     module _ (low : 1 ≤ byte file at) where
-      pub label_long : max_label_bytes < byte file at → Refused 5 ≡ read_label file n at
+      pub label_long : max_label_bytes < byte file at → Err RuleLabel ≡ read_label file n at
       unfolding read_label
-      label_long k = then-stop Refused _ 5 _ (sym (part_bad file at 1 _ 5 (omega arith) (simp (le-leb 1 (byte file at) low, lt-leb (byte file at) max_label_bytes k))))
+      label_long k = then-stop Err _ RuleLabel _ (sym (part_bad file at 1 _ RuleLabel (omega arith) (simp (le-leb 1 (byte file at) low, lt-leb (byte file at) max_label_bytes k))))
 
       module _ (high : byte file at ≤ max_label_bytes) where
         sized : label_length? (byte file at) ≡ true
         sized = simp (le-leb 1 (byte file at) low, le-leb (byte file at) max_label_bytes high)
 
-        pub label_cut : length file - (at + 1) < byte file at → Refused 1 ≡ read_label file n at
+        pub label_cut : length file - (at + 1) < byte file at → Err RuleEndsEarly ≡ read_label file n at
         unfolding read_label
-        label_cut k = then_at Refused _ (at + 1) _ _ (sym (part_ok file at 1 _ 5 (omega arith) sized)) (part_short file (at + 1) (byte file at) _ 5 (omega arith))
+        label_cut k = then_at Err _ (at + 1) _ _ (sym (part_ok file at 1 _ RuleLabel (omega arith) sized)) (part_short file (at + 1) (byte file at) _ RuleLabel (omega arith))
 
         module _ (room : byte file at ≤ length file - (at + 1)) (l : Bool) (says : l ≡ label_form? (capitals (take (at + 1 + byte file at - (at + 1)) (drop (at + 1) file)))) where
           tested : label_form? (label_from file at) ≡ l
           tested = sym (says ∙ ap label_form? (bytes_part file at))
 
-          faulty : (label_form? (label_from file at) && not (listed file n (label_from file at))) ≡ false → Refused 5 ≡ read_label file n at
+          faulty : (label_form? (label_from file at) && not (listed file n (label_from file at))) ≡ false → Err RuleLabel ≡ read_label file n at
           unfolding read_label
-          faulty e = then_at Refused _ (at + 1) _ _ (sym (part_ok file at 1 _ 5 (omega arith) sized)) (part_bad file (at + 1) (byte file at) _ 5 (omega arith) e)
+          faulty e = then_at Err _ (at + 1) _ _ (sym (part_ok file at 1 _ RuleLabel (omega arith) sized)) (part_bad file (at + 1) (byte file at) _ RuleLabel (omega arith) e)
 
-          pub label_letter : not l ≡ true → Refused 5 ≡ read_label file n at
+          pub label_letter : not l ≡ true → Err RuleLabel ≡ read_label file n at
           label_letter t = faulty (simp (tested ∙ not-true l t))
 
-          pub label_twice : (d : Bool) → not l ≡ false → d ≡ listed file n (label_from file at) → d ≡ true → Refused 5 ≡ read_label file n at
+          pub label_twice : (d : Bool) → not l ≡ false → d ≡ listed file n (label_from file at) → d ≡ true → Err RuleLabel ≡ read_label file n at
           label_twice d t f u = faulty (simp (tested ∙ not-false l t, sym f ∙ u))
 
-          pub label_ok : (d : Bool) → not l ≡ false → d ≡ listed file n (label_from file at) → d ≡ false → At (at + 1 + byte file at) ≡ read_label file n at
+          pub label_ok : (d : Bool) → not l ≡ false → d ≡ listed file n (label_from file at) → d ≡ false → Ok (at + 1 + byte file at) ≡ read_label file n at
           unfolding read_label
-          label_ok d t f u = then_at Refused _ (at + 1) _ _ (sym (part_ok file at 1 _ 5 (omega arith) sized)) (part_ok file (at + 1) (byte file at) _ 5 (omega arith) (simp (tested ∙ not-false l t, sym f ∙ u)))
+          label_ok d t f u = then_at Err _ (at + 1) _ _ (sym (part_ok file at 1 _ RuleLabel (omega arith) sized)) (part_ok file (at + 1) (byte file at) _ RuleLabel (omega arith) (simp (tested ∙ not-false l t, sym f ∙ u)))
 
 pub ruleset label-cases = (label_none, label_empty, label_long, label_cut, label_letter, label_twice, label_ok)
 
@@ -162,15 +163,15 @@ pub place_first : (file : List ℕ) → 6 ≡ label_start file 0
 unfolding label_start
 place_first file = refl
 
-pub label_read : (file : List ℕ) (n q : ℕ) → read_label file n (label_start file n) ≡ At q → (q ≡ label_start file (suc n)) × LabelOk file n
+pub label_read : (file : List ℕ) (n q : ℕ) → read_label file n (label_start file n) ≡ Ok q → (q ≡ label_start file (suc n)) × LabelOk file n
 unfolding read_label label_start
 label_read file n q e =
     let p : ℕ = label_start file n in
     let size : Bool = label_length? (byte file p) in
     let fit : Bool = label_form? (label_from file p) && not (listed file n (label_from file p)) in
-    let t = both_read (part file p 1 size 5) (λ q. part file q (byte file p) fit 5) q e in
-    let u = part_read file p 1 size 5 t.0 t.1 in
-    let v = part_read file t.0 (byte file p) fit 5 q t.2 in (
+    let t = both_read (part file p 1 size RuleLabel) (λ q. part file q (byte file p) fit RuleLabel) q e in
+    let u = part_read file p 1 size RuleLabel t.0 t.1 in
+    let v = part_read file t.0 (byte file p) fit RuleLabel q t.2 in (
       omega (arith, u.0, v.0),
       record {
         low = leb-true 1 (byte file p) (and_left (leb 1 (byte file p)) (leb (byte file p) max_label_bytes) u.1.1);
@@ -181,36 +182,36 @@ label_read file n q e =
       },
     )
 
-pub labels_read : (file : List ℕ) (n q : ℕ) → read_labels file n ≡ At q → (q ≡ label_start file n) × LabelsOk file n
+pub labels_read : (file : List ℕ) (n q : ℕ) → read_labels file n ≡ Ok q → (q ≡ label_start file n) × LabelsOk file n
 unfolding read_labels
 labels_read file zero q e = (sym (at_inj 6 q e) ∙ place_first file, λ i h. absurd (omega arith))
 labels_read file (suc n) q e =
     let t = both_read (read_labels file n) (λ p. read_label file n p) q e in
     let w = labels_read file n t.0 t.1 in
-    let v = label_read file n q (subst (λ (p : ℕ). read_label file n p ≡ At q) w.0 t.2) in
+    let v = label_read file n q (subst (λ (p : ℕ). read_label file n p ≡ Ok q) w.0 t.2) in
     (v.0, λ i h. either_eq i n (λ g. subst (λ (k : ℕ). LabelOk file k) (sym g) v.1) (λ g. w.1 i (omega arith)))
 
-pub labels_place : (file : List ℕ) (n at : ℕ) → 6 ≤ length file → read_labels file n ≡ At at → (at ≡ label_start file n) × (at ≤ length file)
+pub labels_place : (file : List ℕ) (n at : ℕ) → 6 ≤ length file → read_labels file n ≡ Ok at → (at ≡ label_start file n) × (at ≤ length file)
 labels_place file n at h e =
     let w = labels_read file n at e in
     let k = place_within file n h w.1 in
     (w.0, omega (arith, w.0))
 
-module _ (file : List ℕ) (n at : ℕ) (r : Read) (e : read_labels file n ≡ At at) (f : r ≡ read_label file n at) where
-  pub labels_next : (q : ℕ) → r ≡ At q → read_labels file (n + 1) ≡ At q
+module _ (file : List ℕ) (n at : ℕ) (r : Result ℕ Refusal) (e : read_labels file n ≡ Ok at) (f : r ≡ read_label file n at) where
+  pub labels_next : (q : ℕ) → r ≡ Ok q → read_labels file (n + 1) ≡ Ok q
   unfolding read_labels and_then
   labels_next q g = rw (add-one n, e) (sym f ∙ g)
 
-  pub labels_stop : (k m : ℕ) → r ≡ Refused k → n < m → Refused k ≡ read_labels file m
+  pub labels_stop : (k : Refusal) (m : ℕ) → r ≡ Err k → n < m → Err k ≡ read_labels file m
   unfolding read_labels and_then
   labels_stop k zero g h = absurd (omega arith)
   labels_stop k (suc m) g h =
       either_eq n m
-      (λ q. sym (rw (subst (λ (i : ℕ). read_labels file i ≡ At at) q e) (subst (λ (i : ℕ). read_label file i at ≡ Refused k) q (sym f ∙ g))))
+      (λ q. sym (rw (subst (λ (i : ℕ). read_labels file i ≡ Ok at) q e) (subst (λ (i : ℕ). read_label file i at ≡ Err k) q (sym f ∙ g))))
       (λ q. rw (sym (labels_stop k m g (omega arith))) refl)
 
-pub labels_end : (file : List ℕ) (n m at : ℕ) → read_labels file n ≡ At at → n ≤ m → m ≤ n → At at ≡ read_labels file m
-labels_end file n m at e h k = let q : n ≡ m = omega arith in sym (subst (λ (i : ℕ). read_labels file i ≡ At at) q e)
+pub labels_end : (file : List ℕ) (n m at : ℕ) → read_labels file n ≡ Ok at → n ≤ m → m ≤ n → Ok at ≡ read_labels file m
+labels_end file n m at e h k = let q : n ≡ m = omega arith in sym (subst (λ (i : ℕ). read_labels file i ≡ Ok at) q e)
 
 -- such a label has as many bytes as its length byte says, and the form of a label
 module _ (file : List ℕ) (n : ℕ) (o : LabelOk file n) where

@@ -13,8 +13,9 @@ use Rattle.rules.specs.Limits.{last_kind, variables}
 use Rattle.rules.specs.Parts.{label_count, and_then}
 use Rattle.rules.specs.Table.{Op, op_of, in_range, node_at, fields_ok, read_node, read_nodes, NodeOk}
 use Rattle.rules.specs.declared.Node.{Node}
-use Rattle.rules.specs.declared.Read.{Read}
-use Rattle.rules.specs.declared.Read.TheVariants.{At, Refused}
+use Rattle.std.specs.Prelude.{Result, Ok, Err}
+use Rattle.refusals.specs.declared.Refusal.{Refusal}
+use Rattle.refusals.specs.declared.Refusal.TheVariants.{RuleEndsEarly, RuleNode}
 use Rattle.rules.proofs.Parts.{at_inj, part_short, part_bad, part_ok, part_read, both_read}
 use Rattle.rules.proofs.Formulas.{op_pair_lem, op_none_lem}
 
@@ -58,28 +59,28 @@ module _ (l i : ℕ) (x : Node) where
 
 -- ── one node ──
 module _ (file : List ℕ) (p i : ℕ) (start : p + 3 * i ≤ length file) where
-  pub node_short : length file - (p + 3 * i) < 3 → Refused 1 ≡ read_node file p i
-  node_short h = part_short file (p + 3 * i) 3 _ 6 (omega arith)
+  pub node_short : length file - (p + 3 * i) < 3 → Err RuleEndsEarly ≡ read_node file p i
+  node_short h = part_short file (p + 3 * i) 3 _ RuleNode (omega arith)
 
   module _ (h : 3 ≤ length file - (p + 3 * i)) (l : ℕ) (x : Node) (r : Bool) (e : l ≡ label_count file) (f : x ≡ node_at file p i) (g : r ≡ fields_ok l i x) where
     tested : fields_ok (label_count file) i (node_at file p i) ≡ r
     tested = ap (λ (y : Node). fields_ok (label_count file) i y) (sym f) ∙ (ap (λ (n : ℕ). fields_ok n i x) (sym e) ∙ sym g)
 
-    pub node_bad : not r ≡ true → Refused 6 ≡ read_node file p i
-    node_bad t = part_bad file (p + 3 * i) 3 _ 6 (omega arith) (tested ∙ not-true r t)
+    pub node_bad : not r ≡ true → Err RuleNode ≡ read_node file p i
+    node_bad t = part_bad file (p + 3 * i) 3 _ RuleNode (omega arith) (tested ∙ not-true r t)
 
-    pub node_ok : not r ≡ false → At (p + 3 * i + 3) ≡ read_node file p i
-    node_ok t = part_ok file (p + 3 * i) 3 _ 6 (omega arith) (tested ∙ not-false r t)
+    pub node_ok : not r ≡ false → Ok (p + 3 * i + 3) ≡ read_node file p i
+    node_ok t = part_ok file (p + 3 * i) 3 _ RuleNode (omega arith) (tested ∙ not-false r t)
 
 pub ruleset node-cases = (node_short, node_bad, node_ok)
 
 -- ── nodes that are read ──
-pub node_read : (file : List ℕ) (p i q : ℕ) → read_node file p i ≡ At q → (q ≡ p + 3 * i + 3) × NodeOk file p i
+pub node_read : (file : List ℕ) (p i q : ℕ) → read_node file p i ≡ Ok q → (q ≡ p + 3 * i + 3) × NodeOk file p i
 node_read file p i q e =
-    let v = part_read file (p + 3 * i) 3 _ 6 q e in
+    let v = part_read file (p + 3 * i) 3 _ RuleNode q e in
     (v.0, record { room = omega (arith, v.1.0); fields = v.1.1 })
 
-pub nodes_read : (file : List ℕ) (p n q : ℕ) → read_nodes file p n ≡ At q → (q ≡ p + 3 * n) × ((i : ℕ) → i < n → NodeOk file p i)
+pub nodes_read : (file : List ℕ) (p n q : ℕ) → read_nodes file p n ≡ Ok q → (q ≡ p + 3 * n) × ((i : ℕ) → i < n → NodeOk file p i)
 unfolding read_nodes
 nodes_read file p zero q e = let z = at_inj p q e in (omega arith, λ i h. absurd (omega arith))
 nodes_read file p (suc n) q e =
@@ -88,28 +89,28 @@ nodes_read file p (suc n) q e =
     let v = node_read file p n q t.2 in
     (omega (arith, v.0), λ i h. either_eq i n (λ g. subst (λ (k : ℕ). NodeOk file p k) (sym g) v.1) (λ g. w.1 i (omega arith)))
 
-pub node_room : (file : List ℕ) (p i q : ℕ) (r : Read) → r ≡ read_node file p i → r ≡ At q → p + 3 * (i + 1) ≤ length file
+pub node_room : (file : List ℕ) (p i q : ℕ) (r : Result ℕ Refusal) → r ≡ read_node file p i → r ≡ Ok q → p + 3 * (i + 1) ≤ length file
 node_room file p i q r f g = let v = node_read file p i q (sym f ∙ g) in omega (arith, v.1.room)
 
-pub nodes_first : (file : List ℕ) (p : ℕ) → read_nodes file p 0 ≡ At (p + 3 * 0)
+pub nodes_first : (file : List ℕ) (p : ℕ) → read_nodes file p 0 ≡ Ok (p + 3 * 0)
 unfolding read_nodes
-nodes_first file p = let z : p ≡ p + 3 * 0 = omega arith in ap At z
+nodes_first file p = let z : p ≡ p + 3 * 0 = omega arith in ap Ok z
 
-module _ (file : List ℕ) (p i a : ℕ) (r : Read) (e : read_nodes file p i ≡ At a) (f : r ≡ read_node file p i) where
-  pub nodes_next : (q : ℕ) → r ≡ At q → read_nodes file p (i + 1) ≡ At (p + 3 * (i + 1))
+module _ (file : List ℕ) (p i a : ℕ) (r : Result ℕ Refusal) (e : read_nodes file p i ≡ Ok a) (f : r ≡ read_node file p i) where
+  pub nodes_next : (q : ℕ) → r ≡ Ok q → read_nodes file p (i + 1) ≡ Ok (p + 3 * (i + 1))
   unfolding read_nodes and_then
   nodes_next q g =
       let v = node_read file p i q (sym f ∙ g) in
       let h : q ≡ p + 3 * (i + 1) = omega (arith, v.0) in
-      rw (add-one i, e) (sym f ∙ (g ∙ (ap At h ∙ ap (λ (k : ℕ). At (p + 3 * k)) (add-one i))))
+      rw (add-one i, e) (sym f ∙ (g ∙ (ap Ok h ∙ ap (λ (k : ℕ). Ok (p + 3 * k)) (add-one i))))
 
-  pub nodes_stop : (k m : ℕ) → r ≡ Refused k → i < m → Refused k ≡ read_nodes file p m
+  pub nodes_stop : (k : Refusal) (m : ℕ) → r ≡ Err k → i < m → Err k ≡ read_nodes file p m
   unfolding read_nodes and_then
   nodes_stop k zero g h = absurd (omega arith)
   nodes_stop k (suc m) g h =
       either_eq i m
-      (λ q. sym (rw (subst (λ (j : ℕ). read_nodes file p j ≡ At a) q e) (subst (λ (j : ℕ). read_node file p j ≡ Refused k) q (sym f ∙ g))))
+      (λ q. sym (rw (subst (λ (j : ℕ). read_nodes file p j ≡ Ok a) q e) (subst (λ (j : ℕ). read_node file p j ≡ Err k) q (sym f ∙ g))))
       (λ q. rw (sym (nodes_stop k m g (omega arith))) refl)
 
-pub nodes_end : (file : List ℕ) (p i n : ℕ) → read_nodes file p i ≡ At (p + 3 * i) → i ≤ n → n ≤ i → At (p + 3 * n) ≡ read_nodes file p n
-nodes_end file p i n e h k = let q : i ≡ n = omega arith in sym (subst (λ (j : ℕ). read_nodes file p j ≡ At (p + 3 * j)) q e)
+pub nodes_end : (file : List ℕ) (p i n : ℕ) → read_nodes file p i ≡ Ok (p + 3 * i) → i ≤ n → n ≤ i → Ok (p + 3 * n) ≡ read_nodes file p n
+nodes_end file p i n e h k = let q : i ≡ n = omega arith in sym (subst (λ (j : ℕ). read_nodes file p j ≡ Ok (p + 3 * j)) q e)

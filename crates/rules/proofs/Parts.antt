@@ -10,156 +10,158 @@ use borrow.Author.Tests.{eq-eqb, ne_eqb, le-leb, lt-leb, leb-true}
 use Rattle.lists.proofs.Cases.{and_left, and_right}
 use Rattle.rules.specs.Limits.{max_labels, max_nodes}
 use Rattle.rules.specs.Parts.{byte, part, and_then, read_mark, read_version, label_count, read_label_count, read_head, read_node_count, nothing_follows}
-use Rattle.rules.specs.declared.Read.{Read}
-use Rattle.rules.specs.declared.Read.TheVariants.{At, Refused}
+use Rattle.std.specs.Prelude.{Result, Ok, Err}
+use Rattle.refusals.specs.declared.Refusal.{Refusal}
+use Rattle.refusals.specs.declared.Refusal.TheVariants.{RuleEndsEarly, RuleMark, RuleVersion, RuleCount, RuleTooLong}
 
-pub at_inj : (p q : ℕ) → At p ≡ At q → p ≡ q
+pub at_inj : (p q : ℕ) → ◌≡◌ {A = Result ℕ Refusal} (Ok p) (Ok q) → p ≡ q
 at_inj p q e = cc
 
-pub not_at : {X : Type 0} (p q : ℕ) → Refused p ≡ At q → X
-not_at p q e = absurd (let z : ◌≡◌ {A = ℕ} 0 1 = cc in omega arith)
+pub not_at : {X : Type 0} (e : Refusal) (q : ℕ) → ◌≡◌ {A = Result ℕ Refusal} (Err e) (Ok q) → X
+not_at e q h = absurd (let z : ◌≡◌ {A = ℕ} 0 1 = cc in omega arith)
 
 -- ── one part ──
-module _ (file : List ℕ) (p n : ℕ) (ok : Bool) (fault : ℕ) where
-  pub part_short : length file < p + n → Refused 1 ≡ part file p n ok fault
+module _ (file : List ℕ) (p n : ℕ) (ok : Bool) (fault : Refusal) where
+  pub part_short : length file < p + n → Err RuleEndsEarly ≡ part file p n ok fault
   unfolding part
   part_short h = rw (lt-leb (p + n) (length file) h) refl
 
-  pub part_bad : p + n ≤ length file → ok ≡ false → Refused fault ≡ part file p n ok fault
+  pub part_bad : p + n ≤ length file → ok ≡ false → Err fault ≡ part file p n ok fault
   unfolding part
   part_bad h e = rw (le-leb (p + n) (length file) h, e) refl
 
-  pub part_ok : p + n ≤ length file → ok ≡ true → At (p + n) ≡ part file p n ok fault
+  pub part_ok : p + n ≤ length file → ok ≡ true → Ok (p + n) ≡ part file p n ok fault
   unfolding part
   part_ok h e = rw (le-leb (p + n) (length file) h, e) refl
 
 -- a part that is read is whole, passes its test, and ends where it should
-pub part_read : (file : List ℕ) (p n : ℕ) (ok : Bool) (fault q : ℕ) → part file p n ok fault ≡ At q → (q ≡ p + n) × ((p + n ≤ length file) × (ok ≡ true))
+pub part_read : (file : List ℕ) (p n : ℕ) (ok : Bool) (fault : Refusal) (q : ℕ) → part file p n ok fault ≡ Ok q → (q ≡ p + n) × ((p + n ≤ length file) × (ok ≡ true))
 unfolding part
 part_read file p n ok fault q e = go (leb (p + n) (length file)) ok refl e
   where
-    go : (x y : Bool) → leb (p + n) (length file) ≡ x → cond x (cond y (At (p + n)) (Refused fault)) (Refused 1) ≡ At q → (q ≡ p + n) × ((p + n ≤ length file) × (y ≡ true))
+    go : (x y : Bool) → leb (p + n) (length file) ≡ x → cond x (cond y (Ok (p + n)) (Err fault)) (Err RuleEndsEarly) ≡ Ok q → (q ≡ p + n) × ((p + n ≤ length file) × (y ≡ true))
     go true true h f = (sym (at_inj (p + n) q f), (leb-true (p + n) (length file) h, refl))
     go true false h f = not_at fault q f
-    go false y h f = not_at 1 q f
+    go false y h f = not_at RuleEndsEarly q f
 
 -- ── one part after another ──
 -- equal parts, and what follows is equal where they are read
-pub then_same : {A : Type 0} (refuse : ℕ → A) (r s : Read) (f g : ℕ → A) → r ≡ s → ((p : ℕ) → s ≡ At p → f p ≡ g p) → and_then refuse r f ≡ and_then refuse s g
+pub then_same : {A : Type 0} (refuse : Refusal → A) (r s : Result ℕ Refusal) (f g : ℕ → A) → r ≡ s → ((p : ℕ) → s ≡ Ok p → f p ≡ g p) → and_then refuse r f ≡ and_then refuse s g
 unfolding and_then
-then_same {A = A} refuse r s f g e h = ap (λ (k : Read). and_then refuse k f) e ∙ go s h
+then_same {A = A} refuse r s f g e h = ap (λ (k : Result ℕ Refusal). and_then refuse k f) e ∙ go s h
   where
-    go : (k : Read) → ((p : ℕ) → k ≡ At p → f p ≡ g p) → and_then refuse k f ≡ and_then refuse k g
-    go (At p) l = l p refl
-    go (Refused n) l = refl
+    go : (k : Result ℕ Refusal) → ((p : ℕ) → k ≡ Ok p → f p ≡ g p) → and_then refuse k f ≡ and_then refuse k g
+    go (Ok p) l = l p refl
+    go (Err n) l = refl
 
-module _ {A : Type 0} (refuse : ℕ → A) where
-  pub then-stop : (r : Read) (n : ℕ) (f : ℕ → A) → r ≡ Refused n → refuse n ≡ and_then refuse r f
+module _ {A : Type 0} (refuse : Refusal → A) where
+  pub then-stop : (r : Result ℕ Refusal) (n : Refusal) (f : ℕ → A) → r ≡ Err n → refuse n ≡ and_then refuse r f
   unfolding and_then
-  then-stop r n f e = sym (ap (λ (q : Read). and_then refuse q f) e)
+  then-stop r n f e = sym (ap (λ (q : Result ℕ Refusal). and_then refuse q f) e)
 
-  pub then_at : (r : Read) (p : ℕ) (f : ℕ → A) (x : A) → r ≡ At p → x ≡ f p → x ≡ and_then refuse r f
+  pub then_at : (r : Result ℕ Refusal) (p : ℕ) (f : ℕ → A) (x : A) → r ≡ Ok p → x ≡ f p → x ≡ and_then refuse r f
   unfolding and_then
-  then_at r p f x e h = h ∙ sym (ap (λ (q : Read). and_then refuse q f) e)
+  then_at r p f x e h = h ∙ sym (ap (λ (q : Result ℕ Refusal). and_then refuse q f) e)
 
-  pub then_read : (r : Read) (f : ℕ → A) (x : A) → ((n : ℕ) → refuse n ≡ x → ⊥) → and_then refuse r f ≡ x → (p : ℕ) × (r ≡ At p) × (f p ≡ x)
+  pub then_read : (r : Result ℕ Refusal) (f : ℕ → A) (x : A) → ((n : Refusal) → refuse n ≡ x → ⊥) → and_then refuse r f ≡ x → (p : ℕ) × (r ≡ Ok p) × (f p ≡ x)
   unfolding and_then
-  then_read (At p) f x apart e = (p, refl, e)
-  then_read (Refused n) f x apart e = absurd (apart n e)
+  then_read (Ok p) f x apart e = (p, refl, e)
+  then_read (Err n) f x apart e = absurd (apart n e)
 
   -- two parts read as one
-  pub then-then : (r : Read) (f : ℕ → Read) (g : ℕ → A) → and_then refuse (and_then Refused r f) g ≡ and_then refuse r (λ p. and_then refuse (f p) g)
+  pub then-then : (r : Result ℕ Refusal) (f : ℕ → Result ℕ Refusal) (g : ℕ → A) → and_then refuse (and_then Err r f) g ≡ and_then refuse r (λ p. and_then refuse (f p) g)
   unfolding and_then
-  then-then (At p) f g = refl
-  then-then (Refused n) f g = refl
+  then-then (Ok p) f g = refl
+  then-then (Err n) f g = refl
 
-pub both_read : (r : Read) (f : ℕ → Read) (q : ℕ) → and_then Refused r f ≡ At q → (p : ℕ) × (r ≡ At p) × (f p ≡ At q)
-both_read r f q e = then_read Refused r f (At q) (λ n h. not_at n q h) e
+pub both_read : (r : Result ℕ Refusal) (f : ℕ → Result ℕ Refusal) (q : ℕ) → and_then Err r f ≡ Ok q → (p : ℕ) × (r ≡ Ok p) × (f p ≡ Ok q)
+both_read r f q e = then_read Err r f (Ok q) (λ n h. not_at n q h) e
 
 -- ── the mark ──
 module _ (file : List ℕ) where
-  pub mark_short : length file < 3 → Refused 1 ≡ read_mark file
-  mark_short h = part_short file 0 3 _ 2 h
+  pub mark_short : length file < 3 → Err RuleEndsEarly ≡ read_mark file
+  mark_short h = part_short file 0 3 _ RuleMark h
 
-  pub mark_r : 3 ≤ length file → (byte file 0 ≡ 82 → ⊥) → Refused 2 ≡ read_mark file
-  mark_r h n = part_bad file 0 3 _ 2 h (simp (ne_eqb _ _ n))
+  pub mark_r : 3 ≤ length file → (byte file 0 ≡ 82 → ⊥) → Err RuleMark ≡ read_mark file
+  mark_r h n = part_bad file 0 3 _ RuleMark h (simp (ne_eqb _ _ n))
 
-  pub mark_u : 3 ≤ length file → byte file 0 ≡ 82 → (byte file 1 ≡ 85 → ⊥) → Refused 2 ≡ read_mark file
-  mark_u h r n = part_bad file 0 3 _ 2 h (simp (eq-eqb _ _ r, ne_eqb _ _ n))
+  pub mark_u : 3 ≤ length file → byte file 0 ≡ 82 → (byte file 1 ≡ 85 → ⊥) → Err RuleMark ≡ read_mark file
+  mark_u h r n = part_bad file 0 3 _ RuleMark h (simp (eq-eqb _ _ r, ne_eqb _ _ n))
 
-  pub mark_l : 3 ≤ length file → byte file 0 ≡ 82 → byte file 1 ≡ 85 → (byte file 2 ≡ 76 → ⊥) → Refused 2 ≡ read_mark file
-  mark_l h r u n = part_bad file 0 3 _ 2 h (simp (eq-eqb _ _ r, eq-eqb _ _ u, ne_eqb _ _ n))
+  pub mark_l : 3 ≤ length file → byte file 0 ≡ 82 → byte file 1 ≡ 85 → (byte file 2 ≡ 76 → ⊥) → Err RuleMark ≡ read_mark file
+  mark_l h r u n = part_bad file 0 3 _ RuleMark h (simp (eq-eqb _ _ r, eq-eqb _ _ u, ne_eqb _ _ n))
 
-  pub mark_ok : 3 ≤ length file → byte file 0 ≡ 82 → byte file 1 ≡ 85 → byte file 2 ≡ 76 → At 3 ≡ read_mark file
-  mark_ok h r u l = part_ok file 0 3 _ 2 h (simp (eq-eqb _ _ r, eq-eqb _ _ u, eq-eqb _ _ l))
+  pub mark_ok : 3 ≤ length file → byte file 0 ≡ 82 → byte file 1 ≡ 85 → byte file 2 ≡ 76 → Ok 3 ≡ read_mark file
+  mark_ok h r u l = part_ok file 0 3 _ RuleMark h (simp (eq-eqb _ _ r, eq-eqb _ _ u, eq-eqb _ _ l))
 
   -- ── the version ──
-  pub version-short : length file < 5 → Refused 1 ≡ read_version file
-  version-short h = part_short file 3 2 _ 3 h
+  pub version-short : length file < 5 → Err RuleEndsEarly ≡ read_version file
+  version-short h = part_short file 3 2 _ RuleVersion h
 
-  pub version_bad : 5 ≤ length file → (byte file 3 + 256 * byte file 4 ≡ 1 → ⊥) → Refused 3 ≡ read_version file
-  version_bad h n = part_bad file 3 2 _ 3 h (ne_eqb _ _ n)
+  pub version_bad : 5 ≤ length file → (byte file 3 + 256 * byte file 4 ≡ 1 → ⊥) → Err RuleVersion ≡ read_version file
+  version_bad h n = part_bad file 3 2 _ RuleVersion h (ne_eqb _ _ n)
 
-  pub version_ok : 5 ≤ length file → byte file 3 + 256 * byte file 4 ≡ 1 → At 5 ≡ read_version file
-  version_ok h e = part_ok file 3 2 _ 3 h (eq-eqb _ _ e)
+  pub version_ok : 5 ≤ length file → byte file 3 + 256 * byte file 4 ≡ 1 → Ok 5 ≡ read_version file
+  version_ok h e = part_ok file 3 2 _ RuleVersion h (eq-eqb _ _ e)
 
   -- ── the label count ──
-  pub labels_short : length file < 6 → Refused 1 ≡ read_label_count file
-  labels_short h = part_short file 5 1 _ 4 h
+  pub labels_short : length file < 6 → Err RuleEndsEarly ≡ read_label_count file
+  labels_short h = part_short file 5 1 _ RuleCount h
 
-  pub labels_many : 6 ≤ length file → max_labels < byte file 5 → Refused 4 ≡ read_label_count file
-  labels_many h k = part_bad file 5 1 _ 4 h (lt-leb _ _ k)
+  pub labels_many : 6 ≤ length file → max_labels < byte file 5 → Err RuleCount ≡ read_label_count file
+  labels_many h k = part_bad file 5 1 _ RuleCount h (lt-leb _ _ k)
 
-  pub labels_ok : 6 ≤ length file → byte file 5 ≤ max_labels → At 6 ≡ read_label_count file
-  labels_ok h k = part_ok file 5 1 _ 4 h (le-leb _ _ k)
+  pub labels_ok : 6 ≤ length file → byte file 5 ≤ max_labels → Ok 6 ≡ read_label_count file
+  labels_ok h k = part_ok file 5 1 _ RuleCount h (le-leb _ _ k)
 
   -- ── the three together ──
-  module _ (m v : Read) where
-    pub head_mark : (n : ℕ) → m ≡ read_mark file → m ≡ Refused n → Refused n ≡ read_head file
+  module _ (m : Result ℕ Refusal) where
+    pub head_mark : (n : Refusal) → m ≡ read_mark file → m ≡ Err n → Err n ≡ read_head file
     unfolding read_head
-    head_mark n e f = then-stop Refused _ n _ (sym e ∙ f)
+    head_mark n e f = then-stop Err _ n _ (sym e ∙ f)
 
-    pub head_version : (n p : ℕ) → m ≡ read_mark file → m ≡ At p → v ≡ read_version file → v ≡ Refused n → Refused n ≡ read_head file
+  module _ (m v : Result ℕ Refusal) where
+    pub head_version : (n : Refusal) (p : ℕ) → m ≡ read_mark file → m ≡ Ok p → v ≡ read_version file → v ≡ Err n → Err n ≡ read_head file
     unfolding read_head
-    head_version n p e f g h = then_at Refused _ p _ _ (sym e ∙ f) (then-stop Refused _ n _ (sym g ∙ h))
+    head_version n p e f g h = then_at Err _ p _ _ (sym e ∙ f) (then-stop Err _ n _ (sym g ∙ h))
 
-    pub head_count : (p q : ℕ) (r : Read) → m ≡ read_mark file → m ≡ At p → v ≡ read_version file → v ≡ At q → r ≡ read_label_count file → r ≡ read_head file
+    pub head_count : (p q : ℕ) (r : Result ℕ Refusal) → m ≡ read_mark file → m ≡ Ok p → v ≡ read_version file → v ≡ Ok q → r ≡ read_label_count file → r ≡ read_head file
     unfolding read_head
-    head_count p q r e f g h i = then_at Refused _ p _ _ (sym e ∙ f) (then_at Refused _ q _ _ (sym g ∙ h) i)
+    head_count p q r e f g h i = then_at Err _ p _ _ (sym e ∙ f) (then_at Err _ q _ _ (sym g ∙ h) i)
 
-  pub head_read : (q : ℕ) → read_head file ≡ At q → (6 ≤ length file) × (label_count file ≤ max_labels)
+  pub head_read : (q : ℕ) → read_head file ≡ Ok q → (6 ≤ length file) × (label_count file ≤ max_labels)
   unfolding read_head
   head_read q e =
-      let t = both_read (read_mark file) (λ _. and_then Refused (read_version file) (λ _. read_label_count file)) q e in
+      let t = both_read (read_mark file) (λ _. and_then Err (read_version file) (λ _. read_label_count file)) q e in
       let u = both_read (read_version file) (λ _. read_label_count file) q t.2 in
-      let v = part_read file 5 1 _ 4 q u.2 in
+      let v = part_read file 5 1 _ RuleCount q u.2 in
       (v.1.0, leb-true _ _ v.1.1)
 
   -- ── the node count, at p ──
   module _ (p : ℕ) where
-    pub count_short : length file ≤ p → Refused 1 ≡ read_node_count file p
-    count_short h = part_short file p 1 _ 4 (omega arith)
+    pub count_short : length file ≤ p → Err RuleEndsEarly ≡ read_node_count file p
+    count_short h = part_short file p 1 _ RuleCount (omega arith)
 
-    pub count_none : p < length file → byte file p < 1 → Refused 4 ≡ read_node_count file p
-    count_none h k = part_bad file p 1 _ 4 (omega arith) (simp (lt-leb 1 (byte file p) k))
+    pub count_none : p < length file → byte file p < 1 → Err RuleCount ≡ read_node_count file p
+    count_none h k = part_bad file p 1 _ RuleCount (omega arith) (simp (lt-leb 1 (byte file p) k))
 
-    pub count_many : p < length file → 1 ≤ byte file p → max_nodes < byte file p → Refused 4 ≡ read_node_count file p
-    count_many h i k = part_bad file p 1 _ 4 (omega arith) (simp (le-leb 1 (byte file p) i, lt-leb (byte file p) max_nodes k))
+    pub count_many : p < length file → 1 ≤ byte file p → max_nodes < byte file p → Err RuleCount ≡ read_node_count file p
+    count_many h i k = part_bad file p 1 _ RuleCount (omega arith) (simp (le-leb 1 (byte file p) i, lt-leb (byte file p) max_nodes k))
 
-    pub count_ok : p < length file → 1 ≤ byte file p → byte file p ≤ max_nodes → At (p + 1) ≡ read_node_count file p
-    count_ok h i k = part_ok file p 1 _ 4 (omega arith) (simp (le-leb 1 (byte file p) i, le-leb (byte file p) max_nodes k))
+    pub count_ok : p < length file → 1 ≤ byte file p → byte file p ≤ max_nodes → Ok (p + 1) ≡ read_node_count file p
+    count_ok h i k = part_ok file p 1 _ RuleCount (omega arith) (simp (le-leb 1 (byte file p) i, le-leb (byte file p) max_nodes k))
 
-    pub count_read : (q : ℕ) → read_node_count file p ≡ At q → (q ≡ p + 1) × ((p + 1 ≤ length file) × ((1 ≤ byte file p) × (byte file p ≤ max_nodes)))
+    pub count_read : (q : ℕ) → read_node_count file p ≡ Ok q → (q ≡ p + 1) × ((p + 1 ≤ length file) × ((1 ≤ byte file p) × (byte file p ≤ max_nodes)))
     count_read q e =
-        let v = part_read file p 1 _ 4 q e in
+        let v = part_read file p 1 _ RuleCount q e in
         (v.0, (v.1.0, (leb-true _ _ (and_left (leb 1 (byte file p)) (leb (byte file p) max_nodes) v.1.1), leb-true _ _ (and_right (leb 1 (byte file p)) (leb (byte file p) max_nodes) v.1.1))))
 
     -- ── nothing follows ──
-    pub more-follows : (p ≡ length file → ⊥) → nothing_follows file p ≡ Refused 7
+    pub more-follows : (p ≡ length file → ⊥) → nothing_follows file p ≡ Err RuleTooLong
     unfolding nothing_follows
     more-follows n = rw (ne_eqb p (length file) n) refl
 
-    pub none_follows : p ≡ length file → nothing_follows file p ≡ At p
+    pub none_follows : p ≡ length file → nothing_follows file p ≡ Ok p
     unfolding nothing_follows
     none_follows e = rw (eq-eqb p (length file) e) refl
 

@@ -13,9 +13,11 @@ use Rattle.rules.specs.Parts.{byte, part, and_then, label_count, read_mark, read
 use Rattle.rules.specs.Labels.{read_label, read_labels}
 use Rattle.rules.specs.Table.{read_node, read_nodes, Good}
 use Rattle.rules.specs.Checks.{named_once, root_formula, unless, whole_table}
-use Rattle.rules.specs.Rules.{rule_of, Taken, ReadsRule}
-use Rattle.rules.specs.declared.Read.{Read}
-use Rattle.rules.specs.declared.Read.TheVariants.{At, Refused}
+use Rattle.rules.specs.Rules.{refused, rule_of, Taken, ReadsRule}
+use Rattle.std.specs.Prelude.{Result, Ok, Err}
+use Rattle.refusals.specs.Refusal.{number}
+use Rattle.refusals.specs.declared.Refusal.{Refusal}
+use Rattle.refusals.specs.declared.Refusal.TheVariants.{RuleEndsEarly, RuleMark, RuleVersion, RuleCount, RuleLabel, RuleNode, RuleTooLong}
 use Rattle.rules.specs.declared.Rule.{Rule}
 use Rattle.rules.specs.declared.RuleRead.{RuleRead}
 use Rattle.rules.proofs.Parts.{not_at, part_read, then-stop, then_at, then_read, then-then, head_read, count_read, more-follows, none_follows}
@@ -29,52 +31,52 @@ not_rule n x e = absurd (let z : ◌≡◌ {A = ℕ} 0 1 = cc in omega arith)
 -- what follows the head
 abbrev pub rest : List ℕ → RuleRead
 rest file =
-    and_then RuleRead.Refused (read_labels file (label_count file)) λ p.
-    and_then RuleRead.Refused (read_node_count file p) λ q.
-    and_then RuleRead.Refused (read_nodes file q (byte file p)) λ e.
-    and_then RuleRead.Refused (nothing_follows file e) λ _.
+    and_then refused (read_labels file (label_count file)) λ p.
+    and_then refused (read_node_count file p) λ q.
+    and_then refused (read_nodes file q (byte file p)) λ e.
+    and_then refused (nothing_follows file e) λ _.
     whole_table file q (byte file p)
 
-head_first : (file : List ℕ) → and_then RuleRead.Refused (read_head file) (λ _. rest file) ≡ rule_of file
+head_first : (file : List ℕ) → and_then refused (read_head file) (λ _. rest file) ≡ rule_of file
 unfolding read_head rule_of
 head_first file =
-    then-then RuleRead.Refused (read_mark file) (λ _. and_then Refused (read_version file) (λ _. read_label_count file)) (λ _. rest file)
-    ∙ ap (λ (y : RuleRead). and_then RuleRead.Refused (read_mark file) (λ _. y)) (then-then RuleRead.Refused (read_version file) (λ _. read_label_count file) (λ _. rest file))
+    then-then refused (read_mark file) (λ _. and_then Err (read_version file) (λ _. read_label_count file)) (λ _. rest file)
+    ∙ ap (λ (y : RuleRead). and_then refused (read_mark file) (λ _. y)) (then-then refused (read_version file) (λ _. read_label_count file) (λ _. rest file))
 
-module _ (file : List ℕ) (h : Read) (head : h ≡ read_head file) where
-  pub rule_head : (n : ℕ) → h ≡ Refused n → RuleRead.Refused n ≡ rule_of file
-  rule_head n e = then-stop RuleRead.Refused _ n _ (sym head ∙ e) ∙ head_first file
+module _ (file : List ℕ) (h : Result ℕ Refusal) (head : h ≡ read_head file) where
+  pub rule_head : (n : Refusal) → h ≡ Err n → refused n ≡ rule_of file
+  rule_head n e = then-stop refused _ n _ (sym head ∙ e) ∙ head_first file
 
-  pub head_room : (a : ℕ) → h ≡ At a → 6 ≤ length file
+  pub head_room : (a : ℕ) → h ≡ Ok a → 6 ≤ length file
   head_room a e = (head_read file a (sym head ∙ e)).0
 
-  module _ (a : ℕ) (hat : h ≡ At a) (l : Read) (labels : l ≡ read_labels file (label_count file)) where
+  module _ (a : ℕ) (hat : h ≡ Ok a) (l : Result ℕ Refusal) (labels : l ≡ read_labels file (label_count file)) where
     after_head : (y : RuleRead) → y ≡ rest file → y ≡ rule_of file
-    after_head y e = then_at RuleRead.Refused _ a (λ _. rest file) y (sym head ∙ hat) e ∙ head_first file
+    after_head y e = then_at refused _ a (λ _. rest file) y (sym head ∙ hat) e ∙ head_first file
 
-    pub rule_labels : (n : ℕ) → l ≡ Refused n → RuleRead.Refused n ≡ rule_of file
-    rule_labels n e = after_head _ (then-stop RuleRead.Refused _ n _ (sym labels ∙ e))
+    pub rule_labels : (n : Refusal) → l ≡ Err n → refused n ≡ rule_of file
+    rule_labels n e = after_head _ (then-stop refused _ n _ (sym labels ∙ e))
 
-    module _ (p : ℕ) (lat : l ≡ At p) (c : Read) (count : c ≡ read_node_count file p) where
-      pub rule_count : (n : ℕ) → c ≡ Refused n → RuleRead.Refused n ≡ rule_of file
-      rule_count n e = after_head _ (then_at RuleRead.Refused _ p _ _ (sym labels ∙ lat) (then-stop RuleRead.Refused _ n _ (sym count ∙ e)))
+    module _ (p : ℕ) (lat : l ≡ Ok p) (c : Result ℕ Refusal) (count : c ≡ read_node_count file p) where
+      pub rule_count : (n : Refusal) → c ≡ Err n → refused n ≡ rule_of file
+      rule_count n e = after_head _ (then_at refused _ p _ _ (sym labels ∙ lat) (then-stop refused _ n _ (sym count ∙ e)))
 
-      module _ (q : ℕ) (cat : c ≡ At q) (t : Read) (nodes : t ≡ read_nodes file q (byte file p)) where
-        after_count : (y : RuleRead) → y ≡ and_then RuleRead.Refused (read_nodes file q (byte file p)) (λ e. and_then RuleRead.Refused (nothing_follows file e) (λ _. whole_table file q (byte file p))) → y ≡ rule_of file
-        after_count y e = after_head y (then_at RuleRead.Refused _ p _ y (sym labels ∙ lat) (then_at RuleRead.Refused _ q _ y (sym count ∙ cat) e))
+      module _ (q : ℕ) (cat : c ≡ Ok q) (t : Result ℕ Refusal) (nodes : t ≡ read_nodes file q (byte file p)) where
+        after_count : (y : RuleRead) → y ≡ and_then refused (read_nodes file q (byte file p)) (λ e. and_then refused (nothing_follows file e) (λ _. whole_table file q (byte file p))) → y ≡ rule_of file
+        after_count y e = after_head y (then_at refused _ p _ y (sym labels ∙ lat) (then_at refused _ q _ y (sym count ∙ cat) e))
 
-        pub rule_nodes : (n : ℕ) → t ≡ Refused n → RuleRead.Refused n ≡ rule_of file
-        rule_nodes n e = after_count _ (then-stop RuleRead.Refused _ n _ (sym nodes ∙ e))
+        pub rule_nodes : (n : Refusal) → t ≡ Err n → refused n ≡ rule_of file
+        rule_nodes n e = after_count _ (then-stop refused _ n _ (sym nodes ∙ e))
 
-        module _ (e : ℕ) (tat : t ≡ At e) where
+        module _ (e : ℕ) (tat : t ≡ Ok e) where
           pub rule_more : (e ≡ length file → ⊥) → RuleRead.Refused 7 ≡ rule_of file
-          rule_more n = after_count _ (then_at RuleRead.Refused _ e _ _ (sym nodes ∙ tat) (then-stop RuleRead.Refused _ 7 _ (more-follows file e n)))
+          rule_more n = after_count _ (then_at refused _ e _ _ (sym nodes ∙ tat) (then-stop refused _ RuleTooLong _ (more-follows file e n)))
 
           pub rule_whole : (y : RuleRead) → e ≡ length file → y ≡ whole_table file q (byte file p) → y ≡ rule_of file
-          rule_whole y f w = after_count y (then_at RuleRead.Refused _ e _ y (sym nodes ∙ tat) (then_at RuleRead.Refused _ e _ y (none_follows file e f) w))
+          rule_whole y f w = after_count y (then_at refused _ e _ y (sym nodes ∙ tat) (then_at refused _ e _ y (none_follows file e f) w))
 
 -- what is known on the way
-module _ (file : List ℕ) (p q : ℕ) (c : Read) (count : c ≡ read_node_count file p) (cat : c ≡ At q) where
+module _ (file : List ℕ) (p q : ℕ) (c : Result ℕ Refusal) (count : c ≡ read_node_count file p) (cat : c ≡ Ok q) where
   pub count_room : p < length file
   count_room = let v = count_read file p q (sym count ∙ cat) in omega (arith, v.1.0)
 
@@ -84,7 +86,7 @@ module _ (file : List ℕ) (p q : ℕ) (c : Read) (count : c ≡ read_node_count
   pub count_some : 1 ≤ byte file p
   count_some = (count_read file p q (sym count ∙ cat)).1.1.0
 
-  module _ (e : ℕ) (t : Read) (nodes : t ≡ read_nodes file q (byte file p)) (tat : t ≡ At e) where
+  module _ (e : ℕ) (t : Result ℕ Refusal) (nodes : t ≡ read_nodes file q (byte file p)) (tat : t ≡ Ok e) where
     pub nodes_good : Good file q (byte file p - 1)
     nodes_good i h = (nodes_read file q (byte file p) e (sym nodes ∙ tat)).1 i (omega (arith, count_some))
 
@@ -92,16 +94,16 @@ module _ (file : List ℕ) (p q : ℕ) (c : Read) (count : c ≡ read_node_count
     nodes_fit = omega (arith, count_some, (nodes_good (byte file p - 1) (omega arith)).room)
 
 -- ── a file that is taken ──
-opened : (r : Read) (f : ℕ → RuleRead) (x : Rule) → and_then RuleRead.Refused r f ≡ RuleRead.Rule x → (p : ℕ) × (r ≡ At p) × (f p ≡ RuleRead.Rule x)
-opened r f x e = then_read RuleRead.Refused r f (RuleRead.Rule x) (λ n h. not_rule n x h) e
+opened : (r : Result ℕ Refusal) (f : ℕ → RuleRead) (x : Rule) → and_then refused r f ≡ RuleRead.Rule x → (p : ℕ) × (r ≡ Ok p) × (f p ≡ RuleRead.Rule x)
+opened r f x e = then_read refused r f (RuleRead.Rule x) (λ n h. not_rule (number n) x h) e
 
-follows_read : (file : List ℕ) (e g : ℕ) → nothing_follows file e ≡ At g → e ≡ length file
+follows_read : (file : List ℕ) (e g : ℕ) → nothing_follows file e ≡ Ok g → e ≡ length file
 unfolding nothing_follows
 follows_read file e g h = go (eqb e (length file)) refl h
   where
-    go : (b : Bool) → eqb e (length file) ≡ b → cond b (At e) (Refused 7) ≡ At g → e ≡ length file
+    go : (b : Bool) → eqb e (length file) ≡ b → cond b (Ok e) (Err RuleTooLong) ≡ Ok g → e ≡ length file
     go true q f = eqb-true e (length file) q
-    go false q f = not_at 7 g f
+    go false q f = not_at RuleTooLong g f
 
 module _ (file : List ℕ) (q n : ℕ) where
   abbrev taken : Rule
@@ -133,7 +135,7 @@ rule_taken file x e =
     let q : ℕ = count.0 in
     let n : ℕ = byte file list.0 in
     let w = whole_read file q n x end.2 in
-    let l = part_read file 5 1 _ 4 _ labels.1 in
+    let l = part_read file 5 1 _ RuleCount _ labels.1 in
     let ls = labels_read file (label_count file) list.0 list.1 in
     let c = count_read file list.0 q count.1 in
     let ns = nodes_read file q n nodes.0 nodes.1 in
@@ -158,36 +160,36 @@ rule_taken file x e =
     })
 
 -- ── refusals are numbered 1 to 10 ──
-abbrev Numbered : Read → Type 0
-Numbered (At p) = Unit {0}
-Numbered (Refused n) = (1 ≤ n) × (n ≤ 10)
+abbrev Numbered : Result ℕ Refusal → Type 0
+Numbered (Ok p) = Unit {0}
+Numbered (Err e) = (1 ≤ number e) × (number e ≤ 10)
 
 abbrev RuleNumbered : RuleRead → Type 0
 RuleNumbered (RuleRead.Rule x) = Unit {0}
 RuleNumbered (RuleRead.Refused n) = (1 ≤ n) × (n ≤ 10)
 
-part_numbered : (file : List ℕ) (p n : ℕ) (ok : Bool) (fault : ℕ) → 1 ≤ fault → fault ≤ 10 → Numbered (part file p n ok fault)
+part_numbered : (file : List ℕ) (p n : ℕ) (ok : Bool) (fault : Refusal) → 1 ≤ number fault → number fault ≤ 10 → Numbered (part file p n ok fault)
 unfolding part
 part_numbered file p n ok fault h k = go (leb (p + n) (length file)) ok
   where
-    go : (x y : Bool) → Numbered (cond x (cond y (At (p + n)) (Refused fault)) (Refused 1))
+    go : (x y : Bool) → Numbered (cond x (cond y (Ok (p + n)) (Err fault)) (Err RuleEndsEarly))
     go true true = tt
     go true false = (h, k)
     go false y = (omega arith, omega arith)
 
-both-numbered : (r : Read) (f : ℕ → Read) → Numbered r → ((p : ℕ) → Numbered (f p)) → Numbered (and_then Refused r f)
+both-numbered : (r : Result ℕ Refusal) (f : ℕ → Result ℕ Refusal) → Numbered r → ((p : ℕ) → Numbered (f p)) → Numbered (and_then Err r f)
 unfolding and_then
-both-numbered (At p) f h k = k p
-both-numbered (Refused n) f h k = h
+both-numbered (Ok p) f h k = k p
+both-numbered (Err n) f h k = h
 
-then-numbered : (r : Read) (f : ℕ → RuleRead) → Numbered r → ((p : ℕ) → RuleNumbered (f p)) → RuleNumbered (and_then RuleRead.Refused r f)
+then-numbered : (r : Result ℕ Refusal) (f : ℕ → RuleRead) → Numbered r → ((p : ℕ) → RuleNumbered (f p)) → RuleNumbered (and_then refused r f)
 unfolding and_then
-then-numbered (At p) f h k = k p
-then-numbered (Refused n) f h k = h
+then-numbered (Ok p) f h k = k p
+then-numbered (Err n) f h k = h
 
 label_numbered : (file : List ℕ) (n p : ℕ) → Numbered (read_label file n p)
 unfolding read_label
-label_numbered file n p = both-numbered _ _ (part_numbered file p 1 _ 5 (omega arith) (omega arith)) (λ q. part_numbered file q (byte file p) _ 5 (omega arith) (omega arith))
+label_numbered file n p = both-numbered _ _ (part_numbered file p 1 _ RuleLabel (omega arith) (omega arith)) (λ q. part_numbered file q (byte file p) _ RuleLabel (omega arith) (omega arith))
 
 labels_numbered : (file : List ℕ) (n : ℕ) → Numbered (read_labels file n)
 unfolding read_labels
@@ -197,13 +199,13 @@ labels_numbered file (suc n) = both-numbered (read_labels file n) (λ p. read_la
 nodes_numbered : (file : List ℕ) (p n : ℕ) → Numbered (read_nodes file p n)
 unfolding read_nodes
 nodes_numbered file p zero = tt
-nodes_numbered file p (suc n) = both-numbered (read_nodes file p n) (λ _. read_node file p n) (nodes_numbered file p n) (λ _. part_numbered file (p + 3 * n) 3 _ 6 (omega arith) (omega arith))
+nodes_numbered file p (suc n) = both-numbered (read_nodes file p n) (λ _. read_node file p n) (nodes_numbered file p n) (λ _. part_numbered file (p + 3 * n) 3 _ RuleNode (omega arith) (omega arith))
 
 end_numbered : (file : List ℕ) (e : ℕ) → Numbered (nothing_follows file e)
 unfolding nothing_follows
 end_numbered file e = go (eqb e (length file))
   where
-    go : (b : Bool) → Numbered (cond b (At e) (Refused 7))
+    go : (b : Bool) → Numbered (cond b (Ok e) (Err RuleTooLong))
     go true = tt
     go false = (omega arith, omega arith)
 
@@ -220,11 +222,11 @@ whole_numbered file q n = go (named_once file q n) (scoped (root_formula file q 
 rule_numbered : (file : List ℕ) → RuleNumbered (rule_of file)
 unfolding rule_of
 rule_numbered file =
-    then-numbered _ _ (part_numbered file 0 3 _ 2 (omega arith) (omega arith)) λ _.
-    then-numbered _ _ (part_numbered file 3 2 _ 3 (omega arith) (omega arith)) λ _.
-    then-numbered _ _ (part_numbered file 5 1 _ 4 (omega arith) (omega arith)) λ _.
+    then-numbered _ _ (part_numbered file 0 3 _ RuleMark (omega arith) (omega arith)) λ _.
+    then-numbered _ _ (part_numbered file 3 2 _ RuleVersion (omega arith) (omega arith)) λ _.
+    then-numbered _ _ (part_numbered file 5 1 _ RuleCount (omega arith) (omega arith)) λ _.
     then-numbered _ _ (labels_numbered file (label_count file)) λ p.
-    then-numbered _ _ (part_numbered file p 1 _ 4 (omega arith) (omega arith)) λ q.
+    then-numbered _ _ (part_numbered file p 1 _ RuleCount (omega arith) (omega arith)) λ q.
     then-numbered _ _ (nodes_numbered file q (byte file p)) λ e.
     then-numbered _ _ (end_numbered file e) λ _.
     whole_numbered file q (byte file p)

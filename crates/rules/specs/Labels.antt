@@ -1,10 +1,10 @@
 -- The labels of a rule file: "each label as a length byte and its bytes, none listed twice". What is looked up is their capitals.
-use Rattle.std.specs.Prelude.{ℕ, zero, suc, ◌+◌, ◌≤◌, ◌<◌, ◌≡◌, Bool, true, false, not, ◌&&◌, ◌||◌, List, length, take, drop}
+use Rattle.std.specs.Prelude.{ℕ, zero, suc, ◌+◌, ◌≤◌, ◌<◌, ◌≡◌, Bool, true, false, not, ◌&&◌, ◌||◌, List, length, take, drop, Result, Ok, Err}
 use Rattle.lists.specs.Lists.{same?}
 use Rattle.labels.specs.Label.{capitals, max_label_bytes, label_length?, label_form?}
 use Rattle.rules.specs.Parts.{byte, part, and_then, labels_at}
-use Rattle.rules.specs.declared.Read.{Read}
-use Rattle.rules.specs.declared.Read.TheVariants.{At, Refused}
+use Rattle.refusals.specs.declared.Refusal.{Refusal}
+use Rattle.refusals.specs.declared.Refusal.TheVariants.{RuleLabel}
 
 -- the place of label n, that of its length byte; behind the last label, the place after the labels
 unfoldable pub label_start : List ℕ → ℕ → ℕ
@@ -25,15 +25,15 @@ listed file (suc n) l = listed file n l || same? (label_bytes file n) l
 
 -- Label n at p: its length byte, then its bytes. "5 a label of wrong length or byte, or listed twice"; "5 does for two labels in a
 -- rule file's list that differ only in case"
-unfoldable pub read_label : List ℕ → ℕ → ℕ → Read
+unfoldable pub read_label : List ℕ → ℕ → ℕ → Result ℕ Refusal
 read_label file n p =
-    and_then Refused (part file p 1 (label_length? (byte file p)) 5)
-    (λ q. part file q (byte file p) (label_form? (label_from file p) && not (listed file n (label_from file p))) 5)
+    and_then Err (part file p 1 (label_length? (byte file p)) RuleLabel)
+    (λ q. part file q (byte file p) (label_form? (label_from file p) && not (listed file n (label_from file p))) RuleLabel)
 
 -- the first n labels
-unfoldable pub read_labels : List ℕ → ℕ → Read
-read_labels file zero = At labels_at
-read_labels file (suc n) = and_then Refused (read_labels file n) (λ p. read_label file n p)
+unfoldable pub read_labels : List ℕ → ℕ → Result ℕ Refusal
+read_labels file zero = Ok labels_at
+read_labels file (suc n) = and_then Err (read_labels file n) (λ p. read_label file n p)
 
 -- label n stands in the file, is a label, and is none of those before it
 pub record LabelOk (file : List ℕ) (n : ℕ) : Type 0 where

@@ -1,5 +1,7 @@
 -- A rule file as a whole: the rule that it holds, or its first refusal.
 use Rattle.std.specs.Prelude.{ℕ, ◌+◌, ◌*◌, ◌-◌, ◌≤◌, ◌≡◌, true, List, length}
+use Rattle.refusals.specs.Refusal.{number}
+use Rattle.refusals.specs.declared.Refusal.{Refusal}
 use Rattle.rules.specs.Limits.{max_labels, max_nodes, max_nested, max_file_bytes}
 use Rattle.rules.specs.Formula.{Formula, no_scope, scoped, shallow}
 use Rattle.rules.specs.Parts.{byte, label_count, and_then, read_mark, read_version, read_label_count, read_node_count, nothing_follows}
@@ -9,17 +11,21 @@ use Rattle.rules.specs.Checks.{named_once, whole_table}
 use Rattle.rules.specs.declared.Rule.{Rule}
 use Rattle.rules.specs.declared.RuleRead.{RuleRead}
 
+-- a refusal as the answer of the whole
+abbrev pub refused : Refusal → RuleRead
+refused e = RuleRead.Refused (number e)
+
 -- "the rule from its front, each part (mark, version, count, length byte, label bytes, node) first for 1 and then for its
 -- own fault, then 7, 8, 9, 10, each over the whole table"
 unfoldable pub rule_of : List ℕ → RuleRead
 rule_of file =
-    and_then RuleRead.Refused (read_mark file) λ _.
-    and_then RuleRead.Refused (read_version file) λ _.
-    and_then RuleRead.Refused (read_label_count file) λ _.
-    and_then RuleRead.Refused (read_labels file (label_count file)) λ p.
-    and_then RuleRead.Refused (read_node_count file p) λ q.
-    and_then RuleRead.Refused (read_nodes file q (byte file p)) λ e.
-    and_then RuleRead.Refused (nothing_follows file e) λ _.
+    and_then refused (read_mark file) λ _.
+    and_then refused (read_version file) λ _.
+    and_then refused (read_label_count file) λ _.
+    and_then refused (read_labels file (label_count file)) λ p.
+    and_then refused (read_node_count file p) λ q.
+    and_then refused (read_nodes file q (byte file p)) λ e.
+    and_then refused (nothing_follows file e) λ _.
     whole_table file q (byte file p)
 
 -- "The last node is the root": the formula of a file's rule

@@ -1,12 +1,12 @@
 -- The table of nodes, three bytes a node, and the formula that a node stands for. The table starts at place p of the file.
-use Rattle.std.specs.Prelude.{ℕ, zero, suc, ◌+◌, ◌*◌, ◌≤◌, ◌<◌, ◌≡◌, Bool, true, false, ◌&&◌, cond, List, eqb, leb, ltb, length}
+use Rattle.std.specs.Prelude.{ℕ, zero, suc, ◌+◌, ◌*◌, ◌≤◌, ◌<◌, ◌≡◌, Bool, true, false, ◌&&◌, cond, List, eqb, leb, ltb, length, Result, Ok, Err}
 use Rattle.rules.specs.Limits.{last_kind, variables}
 use Rattle.rules.specs.Formula.{Pairing, before, overlaps, includes, same, Formula, both, neg, exists, has, pair}
 use Rattle.rules.specs.Parts.{byte, label_count, part, and_then}
 use Rattle.rules.specs.Labels.{label_bytes}
 use Rattle.rules.specs.declared.Node.{Node}
-use Rattle.rules.specs.declared.Read.{Read}
-use Rattle.rules.specs.declared.Read.TheVariants.{At, Refused}
+use Rattle.refusals.specs.declared.Refusal.{Refusal}
+use Rattle.refusals.specs.declared.Refusal.TheVariants.{RuleNode}
 
 pub data Op : Type 0 where
   op_and op_not op_some op_has op_none : Op
@@ -46,13 +46,13 @@ abbrev pub fields_ok : ℕ → ℕ → Node → Bool
 fields_ok l n x = in_range l n (op_of x.kind) x.a x.b
 
 -- Node n, one part of three bytes. "6 a node's kind or field outside its range (b not 0 under "not" too)"
-abbrev pub read_node : List ℕ → ℕ → ℕ → Read
-read_node file p n = part file (p + 3 * n) 3 (fields_ok (label_count file) n (node_at file p n)) 6
+abbrev pub read_node : List ℕ → ℕ → ℕ → Result ℕ Refusal
+read_node file p n = part file (p + 3 * n) 3 (fields_ok (label_count file) n (node_at file p n)) RuleNode
 
 -- the first n nodes
-unfoldable pub read_nodes : List ℕ → ℕ → ℕ → Read
-read_nodes file p zero = At p
-read_nodes file p (suc n) = and_then Refused (read_nodes file p n) (λ _. read_node file p n)
+unfoldable pub read_nodes : List ℕ → ℕ → ℕ → Result ℕ Refusal
+read_nodes file p zero = Ok p
+read_nodes file p (suc n) = and_then Err (read_nodes file p n) (λ _. read_node file p n)
 
 -- node n stands in the file, with its kind and fields in range
 pub record NodeOk (file : List ℕ) (p n : ℕ) : Type 0 where

@@ -4,8 +4,9 @@ ghost use Rattle.labels.specs.Label.{capitals, max_label_bytes, label_of};
 ghost use Rattle.rules.specs.Parts.{byte};
 ghost use Rattle.rules.specs.Labels.{label_start, label_from, label_bytes, listed, read_label, read_labels, LabelsOk};
 
-use crate::{LABELS_AT, Read};
+use crate::LABELS_AT;
 use labels::MAX_LABEL_BYTES;
+use refusals::Refusal;
 
 // Whether one of the first n labels is the label at a place, that of label n.
 fn is_listed(file: &[u8], n: usize, at: usize) -> bool
@@ -27,52 +28,44 @@ fn is_listed(file: &[u8], n: usize, at: usize) -> bool
 }
 
 // Label n, at its place.
-fn label(file: &[u8], n: usize, at: usize) -> Read
+fn label(file: &[u8], n: usize, at: usize) -> Result<usize, Refusal>
     requires { (at ≡ label_start file.now n) × (at ≤ length file.now) }
     ensures { result ≡ read_label file.now n at }
 {
     if file.len() - at < 1 {
-        return Read::Refused(1);
+        return Err(Refusal::RuleEndsEarly);
     }
     let size = file[at] as usize;
     if size < 1 {
-        return Read::Refused(5);
+        return Err(Refusal::RuleLabel);
     }
     if MAX_LABEL_BYTES < size {
-        return Read::Refused(5);
+        return Err(Refusal::RuleLabel);
     }
     let from = at + 1;
     if file.len() - from < size {
-        return Read::Refused(1);
+        return Err(Refusal::RuleEndsEarly);
     }
     let end = from + size;
     if !labels::is_label(&file[from..end]) {
-        return Read::Refused(5);
+        return Err(Refusal::RuleLabel);
     }
     if is_listed(file, n, at) {
-        return Read::Refused(5);
+        return Err(Refusal::RuleLabel);
     }
-    Read::At(end)
+    Ok(end)
 }
 
 // All labels: the place after the last.
-pub fn labels(file: &[u8], count: usize) -> Read
+pub fn labels(file: &[u8], count: usize) -> Result<usize, Refusal>
     requires { 6 ≤ length file.now }
     ensures { result ≡ read_labels file.now count }
 {
     let mut at: usize = LABELS_AT;
     for i in 0..count {
-        let r = label(file, i, at);
-        match r {
-            Read::At(next) => {
-                at = next;
-            }
-            Read::Refused(n) => {
-                return Read::Refused(n);
-            }
-        }
+        at = label(file, i, at)?;
     }
-    Read::At(at)
+    Ok(at)
 }
 
 // The place of label n: that of its length byte.

@@ -2,67 +2,60 @@
 ghost use Rattle.std.specs.Prelude.{◌≡◌};
 ghost use Rattle.rules.specs.Parts.{read_mark, read_version, read_label_count, read_head};
 
-use crate::{LABEL_COUNT_AT, LABELS_AT, MAX_LABELS, Read};
+use crate::{LABEL_COUNT_AT, LABELS_AT, MAX_LABELS};
+use refusals::Refusal;
 
 // The mark `RUL`.
-fn mark(file: &[u8]) -> Read
+fn mark(file: &[u8]) -> Result<usize, Refusal>
     ensures { result ≡ read_mark file.now }
 {
     if file.len() < 3 {
-        return Read::Refused(1);
+        return Err(Refusal::RuleEndsEarly);
     }
     if file[0] != b'R' {
-        return Read::Refused(2);
+        return Err(Refusal::RuleMark);
     }
     if file[1] != b'U' {
-        return Read::Refused(2);
+        return Err(Refusal::RuleMark);
     }
     if file[2] != b'L' {
-        return Read::Refused(2);
+        return Err(Refusal::RuleMark);
     }
-    Read::At(3)
+    Ok(3)
 }
 
 // The version, 16 bits, low byte first.
-fn version(file: &[u8]) -> Read
+fn version(file: &[u8]) -> Result<usize, Refusal>
     ensures { result ≡ read_version file.now }
 {
     if file.len() < 5 {
-        return Read::Refused(1);
+        return Err(Refusal::RuleEndsEarly);
     }
     let number = file[3] as usize + 256 * (file[4] as usize);
     if number != 1 {
-        return Read::Refused(3);
+        return Err(Refusal::RuleVersion);
     }
-    Read::At(5)
+    Ok(5)
 }
 
 // The count of labels.
-fn label_count(file: &[u8]) -> Read
+fn label_count(file: &[u8]) -> Result<usize, Refusal>
     ensures { result ≡ read_label_count file.now }
 {
     if file.len() < LABELS_AT {
-        return Read::Refused(1);
+        return Err(Refusal::RuleEndsEarly);
     }
     if MAX_LABELS < file[LABEL_COUNT_AT] as usize {
-        return Read::Refused(4);
+        return Err(Refusal::RuleCount);
     }
-    Read::At(LABELS_AT)
+    Ok(LABELS_AT)
 }
 
 // The mark, the version and the count of labels.
-pub fn head(file: &[u8]) -> Read
+pub fn head(file: &[u8]) -> Result<usize, Refusal>
     ensures { result ≡ read_head file.now }
 {
-    let m = mark(file);
-    match m {
-        Read::At(_) => {}
-        Read::Refused(n) => return Read::Refused(n),
-    }
-    let v = version(file);
-    match v {
-        Read::At(_) => {}
-        Read::Refused(n) => return Read::Refused(n),
-    }
+    mark(file)?;
+    version(file)?;
     label_count(file)
 }

@@ -1,5 +1,5 @@
 // The parts of a rule file, each read at its place: `front::head`, `file_labels::labels`, `table::node_count` and
-// `table::nodes` answer the place after their part, or the number of its first fault (1 to 6).
+// `table::nodes` answer the place after their part, or its first fault.
 //
 // Nothing is copied: a rule names places of its file. For a file that is taken, `file_labels::label_of` gives a label, in
 // capitals, and `table::node_at` a node.
@@ -23,13 +23,6 @@ pub const LABEL_COUNT_AT: usize = 5;
 
 // The place of the first label.
 const LABELS_AT: usize = 6;
-
-// What reading a part of a file finds: the place after it, or the refusal's number.
-#[derive(Clone, Copy)]
-pub enum Read {
-    At(usize),
-    Refused(u8),
-}
 
 // A node of the table.
 #[derive(Clone, Copy)]

@@ -3,7 +3,8 @@ ghost use Rattle.std.specs.Prelude.{◌≡◌, ◌&&◌, ◌+◌, ◌*◌, ◌<�
 ghost use Rattle.rules.specs.Parts.{label_count, read_node_count};
 ghost use Rattle.rules.specs.Table.{node_at, fields_ok, read_node, read_nodes};
 
-use crate::{MAX_NODES, Node, Read, VARIABLES};
+use crate::{MAX_NODES, Node, VARIABLES};
+use refusals::Refusal;
 
 // Node n of the table whose first node stands at a place.
 pub fn node_at(file: &[u8], first: usize, n: usize) -> Node
@@ -44,50 +45,44 @@ fn fields_ok(labels: usize, i: usize, x: Node) -> bool
 }
 
 // The count of nodes, at a place.
-pub fn node_count(file: &[u8], at: usize) -> Read
+pub fn node_count(file: &[u8], at: usize) -> Result<usize, Refusal>
     ensures { result ≡ read_node_count file.now at }
 {
     if file.len() <= at {
-        return Read::Refused(1);
+        return Err(Refusal::RuleEndsEarly);
     }
     let count = file[at] as usize;
     if count < 1 {
-        return Read::Refused(4);
+        return Err(Refusal::RuleCount);
     }
     if MAX_NODES < count {
-        return Read::Refused(4);
+        return Err(Refusal::RuleCount);
     }
-    Read::At(at + 1)
+    Ok(at + 1)
 }
 
 // Node i.
-fn node(file: &[u8], labels: usize, first: usize, i: usize) -> Read
+fn node(file: &[u8], labels: usize, first: usize, i: usize) -> Result<usize, Refusal>
     requires { (labels ≡ label_count file.now) × (first + 3 * i ≤ length file.now) }
     ensures { result ≡ read_node file.now first i }
 {
     let at = first + 3 * i;
     if file.len() - at < 3 {
-        return Read::Refused(1);
+        return Err(Refusal::RuleEndsEarly);
     }
     if !fields_ok(labels, i, node_at(file, first, i)) {
-        return Read::Refused(6);
+        return Err(Refusal::RuleNode);
     }
-    Read::At(at + 3)
+    Ok(at + 3)
 }
 
 // All nodes: the place after the last.
-pub fn nodes(file: &[u8], labels: usize, first: usize, count: usize) -> Read
+pub fn nodes(file: &[u8], labels: usize, first: usize, count: usize) -> Result<usize, Refusal>
     requires { (labels ≡ label_count file.now) × (first ≤ length file.now) }
     ensures { result ≡ read_nodes file.now first count }
 {
     for i in 0..count {
-        let r = node(file, labels, first, i);
-        match r {
-            Read::At(_) => {}
-            Read::Refused(n) => {
-                return Read::Refused(n);
-            }
-        }
+        node(file, labels, first, i)?;
     }
-    Read::At(first + 3 * count)
+    Ok(first + 3 * count)
 }

@@ -14,7 +14,8 @@ use Rattle.rules.specs.Parts.{byte, label_count, read_mark, read_version, read_l
 use Rattle.rules.specs.Labels.{label_start, label_from, listed, read_label, read_labels, LabelOk, LabelsOk}
 use Rattle.rules.specs.Labels as Labels
 use Rattle.rules.specs.Table.{node_at, read_node, read_nodes, NodeOk}
-use Rattle.rules.specs.declared.Read.TheVariants.{At, Refused}
+use Rattle.std.specs.Prelude.{Ok, Err}
+use Rattle.refusals.specs.declared.Refusal.TheVariants.{RuleLabel, RuleNode}
 use Rattle.rules.proofs.Parts.{part_ok, then_at, mark_ok, version_ok, labels_ok}
 use Rattle.labels.specs.Label.{letter?, capitals, label_form?}
 use Rattle.labels.proofs.Capitals.{capitals-letters}
@@ -25,26 +26,26 @@ use Rattle.typed_file.specs.File.{label_bytes, second, node_bytes, nodes_bytes, 
 use Rattle.typed_file.proofs.Writing.{list_append}
 
 -- ── parts that are read ──
-pub labels_all : (file : List ℕ) (n : ℕ) → LabelsOk file n → read_labels file n ≡ At (label_start file n)
+pub labels_all : (file : List ℕ) (n : ℕ) → LabelsOk file n → read_labels file n ≡ Ok (label_start file n)
 unfolding read_labels label_start read_label
 labels_all file zero o = refl
 labels_all file (suc n) o =
     let p = label_start file n in
     let k = o n (omega arith) in
     let b = byte file p in
-    sym (then_at Refused (read_labels file n) p (λ r. read_label file n r) _ (labels_all file n (λ i h. o i (omega arith)))
-    (then_at Refused _ (p + 1) _ _
-    (sym (part_ok file p 1 (leb 1 b && leb b 24) 5 (omega (arith, k.room)) (simp (le-leb 1 b k.low, le-leb b 24 k.high))))
-    (part_ok file (p + 1) b _ 5 k.room (simp (k.form, k.fresh)))))
+    sym (then_at Err (read_labels file n) p (λ r. read_label file n r) _ (labels_all file n (λ i h. o i (omega arith)))
+    (then_at Err _ (p + 1) _ _
+    (sym (part_ok file p 1 (leb 1 b && leb b 24) RuleLabel (omega (arith, k.room)) (simp (le-leb 1 b k.low, le-leb b 24 k.high))))
+    (part_ok file (p + 1) b _ RuleLabel k.room (simp (k.form, k.fresh)))))
 
-pub nodes_all : (file : List ℕ) (p n : ℕ) → ((i : ℕ) → i < n → NodeOk file p i) → read_nodes file p n ≡ At (p + 3 * n)
+pub nodes_all : (file : List ℕ) (p n : ℕ) → ((i : ℕ) → i < n → NodeOk file p i) → read_nodes file p n ≡ Ok (p + 3 * n)
 unfolding read_nodes
-nodes_all file p zero o = let e : p ≡ p + 3 * 0 = omega arith in ap At e
+nodes_all file p zero o = let e : p ≡ p + 3 * 0 = omega arith in ap Ok e
 nodes_all file p (suc n) o =
     let k = o n (omega arith) in
     let e : p + 3 * n + 3 ≡ p + 3 * suc n = omega arith in
-    sym (then_at Refused (read_nodes file p n) (p + 3 * n) (λ _. read_node file p n) _ (nodes_all file p n (λ i h. o i (omega arith)))
-    (sym (ap At e) ∙ part_ok file (p + 3 * n) 3 _ 6 (omega (arith, k.room)) k.fields))
+    sym (then_at Err (read_nodes file p n) (p + 3 * n) (λ _. read_node file p n) _ (nodes_all file p n (λ i h. o i (omega arith)))
+    (sym (ap Ok e) ∙ part_ok file (p + 3 * n) 3 _ RuleNode (omega (arith, k.room)) k.fields))
 
 good-each : (ls : List (List ℕ)) (i : ℕ) → good_labels? ls ≡ true → i < length ls → label_form? (get_or ls i []) ≡ true
 good-each [] i g h = absurd (omega arith)
@@ -179,7 +180,7 @@ module _ (text tb : List ℕ) (n : ℕ) (ls : List (List ℕ)) where
       }
 
   -- the head
-  pub head_read : length ls ≤ 16 → (read_mark file ≡ At 3) × (read_version file ≡ At 5) × (read_label_count file ≡ At 6)
+  pub head_read : length ls ≤ 16 → (read_mark file ≡ Ok 3) × (read_version file ≡ Ok 5) × (read_label_count file ≡ Ok 6)
   unfolding file_from
   head_read h = (sym (mark_ok file (omega arith) refl refl refl), sym (version_ok file (omega arith) refl), sym (labels_ok file (omega arith) h))
 

@@ -15,7 +15,7 @@ use Rattle.rules.specs.Table.{op_of, in_range, node_at, fields_ok, read_nodes, N
 use Rattle.rules.specs.Checks.{named_once, root_formula, whole_table}
 use Rattle.rules.specs.Rules.{rule_of, formula_of, Taken}
 use Rattle.rules.specs.declared.Rule.{Rule}
-use Rattle.rules.specs.declared.Read.TheVariants.{At}
+use Rattle.std.specs.Prelude.{Ok}
 use Rattle.rules.specs.declared.RuleRead.{RuleRead}
 use Rattle.rules.proofs.Parts.{head_count, count_ok}
 use Rattle.rules.proofs.Rules.{rule_whole, rule_taken}
@@ -117,12 +117,12 @@ module _ (text tb₀ : List ℕ) (room : 192 ≤ length tb₀) (t : Tree) (known
   file_rule =
       let s = size_some t in
       let hr = head_read text tb n ls ok.labels in
-      let labels_read : At p ≡ read_labels file (label_count file) =
-      sym (ap (read_labels file) (count_labels text tb n ls) ∙ (labels_all file (length ls) (labels_fine text tb n ls ok.form (labels_distinct f)) ∙ ap At (place_last text tb n ls))) in
-      let count_read : At (p + 1) ≡ read_node_count file p = count_ok file p (omega (arith, file-long text tb n ls)) (omega (arith, count_is)) (omega (arith, count_is, ok.nodes)) in
-      let nodes_read : At (p + 1 + 3 * n) ≡ read_nodes file (p + 1) (byte file p) = sym (ap (read_nodes file (p + 1)) count_is ∙ nodes_all file (p + 1) n node_ok) in
-      sym (rule_whole file (At 6) (head_count file (At 3) (At 5) 3 5 (At 6) (sym hr.0) refl (sym hr.1) refl (sym hr.2))
-      6 refl (At p) labels_read p refl (At (p + 1)) count_read (p + 1) refl (At (p + 1 + 3 * n)) nodes_read (p + 1 + 3 * n) refl
+      let labels_read : Ok p ≡ read_labels file (label_count file) =
+      sym (ap (read_labels file) (count_labels text tb n ls) ∙ (labels_all file (length ls) (labels_fine text tb n ls ok.form (labels_distinct f)) ∙ ap Ok (place_last text tb n ls))) in
+      let count_read : Ok (p + 1) ≡ read_node_count file p = count_ok file p (omega (arith, file-long text tb n ls)) (omega (arith, count_is)) (omega (arith, count_is, ok.nodes)) in
+      let nodes_read : Ok (p + 1 + 3 * n) ≡ read_nodes file (p + 1) (byte file p) = sym (ap (read_nodes file (p + 1)) count_is ∙ nodes_all file (p + 1) n node_ok) in
+      sym (rule_whole file (Ok 6) (head_count file (Ok 3) (Ok 5) 3 5 (Ok 6) (sym hr.0) refl (sym hr.1) refl (sym hr.2))
+      6 refl (Ok p) labels_read p refl (Ok (p + 1)) count_read (p + 1) refl (Ok (p + 1 + 3 * n)) nodes_read (p + 1 + 3 * n) refl
       (RuleRead.Rule rule) (sym (file-long text tb n ls)) (whole ∙ ap (whole_table file (p + 1)) (sym count_is)))
 
   pub file-taken : Taken file rule

@@ -3,8 +3,8 @@ use Prim.Native.Nat.{◌+◌, ◌*◌, ◌≤◌}
 use mathlib.Core.Path.{◌≡◌}
 use lib.ListN.{length}
 use Rattle.rules.specs.Table.{read_nodes}
-use Rattle.rules.specs.declared.Read.TheVariants.{At}
+use Rattle.std.specs.Prelude.{Ok}
 use Rattle.rules.proofs.table.nodes.Given as goal
 
 abbrev pub invariant-loop-i : goal.invariant-loop-i
-invariant-loop-i l = (l.first + 3 * l.i ≤ length l.file) × (read_nodes l.file l.first l.i ≡ At (l.first + 3 * l.i))
+invariant-loop-i l = (l.first + 3 * l.i ≤ length l.file) × (read_nodes l.file l.first l.i ≡ Ok (l.first + 3 * l.i))

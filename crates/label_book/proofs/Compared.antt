@@ -1,8 +1,8 @@
 -- Byte order, capital by capital: what is left of two labels decides, as long as the capitals passed are the same.
-use Prim.Native.Nat.{ℕ, ◌+◌, ◌<◌, ◌≤◌}
+use Prim.Native.Nat.{ℕ, ◌+◌, ◌<◌, ◌≤◌, min}
 use mathlib.Core.Path.{◌≡◌, refl, sym, ◌∙◌}
 use mathlib.Core.Bool.{true, false, ◌&&◌, ◌||◌}
-use mathlib.Core.List.{List}
+use mathlib.Core.List.{List, [], ◌∷◌}
 use native.Mathlib.Omega.{arith}
 use lib.Dec.{eqb, ltb}
 use lib.ListN.{length, get_or, drop}
@@ -13,20 +13,19 @@ use Rattle.lists.proofs.Cases.{either_lt}
 use Rattle.label_book.specs.Reading.{before?}
 
 module _ (s t : List ℕ) (i : ℕ) (e : before? (drop i (capitals s)) (drop i (capitals t)) ≡ before? (capitals s) (capitals t)) where
-  pub second-ends : i < length s → length t ≤ i → false ≡ before? (capitals s) (capitals t)
-  second-ends h k =
-      let g : before? (drop i (capitals s)) (drop i (capitals t)) ≡ false = rw (capitals-from s i (capital (get_or s i 0)) h refl, capitals_end t i k) refl in
-      sym g ∙ e
-
-  pub first_ends : length s ≤ i → ltb i (length t) ≡ before? (capitals s) (capitals t)
-  first_ends h =
+  -- one of the two has ended
+  pub ends : i ≡ min (length s) (length t) → ltb (length s) (length t) ≡ before? (capitals s) (capitals t)
+  ends h =
       either_lt i (length t)
       (λ k.
-      let g : before? (drop i (capitals s)) (drop i (capitals t)) ≡ true = rw (capitals_end s i h, capitals-from t i (capital (get_or t i 0)) k refl) refl in
-      lt-ltb i (length t) k ∙ sym g ∙ e)
-      (λ k.
-      let g : before? (drop i (capitals s)) (drop i (capitals t)) ≡ false = rw (capitals_end s i h, capitals_end t i k) refl in
-      le-ltb i (length t) k ∙ sym g ∙ e)
+      let g : before? (drop i (capitals s)) (drop i (capitals t)) ≡ true =
+      rw (capitals_end s i (omega arith), capitals-from t i (capital (get_or t i 0)) k refl) refl in
+      lt-ltb (length s) (length t) (omega arith) ∙ sym g ∙ e)
+      (λ k. ended k (drop i (capitals s)) (rw (capitals_end t i k) at e))
+    where
+      ended : length t ≤ i → (x : List ℕ) → before? x [] ≡ before? (capitals s) (capitals t) → ltb (length s) (length t) ≡ before? (capitals s) (capitals t)
+      ended k [] f = le-ltb (length s) (length t) (omega arith) ∙ f
+      ended k (b ∷ x) f = le-ltb (length s) (length t) (omega arith) ∙ f
 
   module _ (x y : ℕ) (p : x ≡ capital (get_or s i 0)) (q : y ≡ capital (get_or t i 0)) (h : i < length s) (k : i < length t) where
     here : before? (drop i (capitals s)) (drop i (capitals t)) ≡ (ltb x y || eqb x y && before? (drop (i + 1) (capitals s)) (drop (i + 1) (capitals t)))
@@ -46,5 +45,3 @@ module _ (s t : List ℕ) (i : ℕ) (e : before? (drop i (capitals s)) (drop i (
     capital_same l m =
         let g : (ltb x y || eqb x y && before? (drop (i + 1) (capitals s)) (drop (i + 1) (capitals t))) ≡ before? (drop (i + 1) (capitals s)) (drop (i + 1) (capitals t)) = simp (le-ltb x y m, eq-eqb x y (omega arith)) in
         sym g ∙ sym here ∙ e
-
-pub ruleset orders = (second-ends, first_ends, capital-less, capital_greater, capital_same)

@@ -5,14 +5,15 @@ use mathlib.Core.Logic.{◌≢◌}
 use mathlib.Core.Bool.{Bool, true, false, not, ◌&&◌, cond}
 use mathlib.Core.List.{List, [], ◌∷◌}
 use native.Mathlib.Omega.{arith}
-use native.Mathlib.Numerals.{add-one}
-use borrow.Author.Tests.{eq-eqb, ne_eqb, le-leb, lt-leb, eqb-true, leb-true}
-use lib.Dec.{eqb, leb}
-use lib.ListN.{length, take, drop, get_or, drop_of_length-le, length-drop}
-use lib.Seq.{drop-cons, take_all}
+use borrow.Author.Tests.{eq-eqb, ne_eqb, le-leb, lt-leb, lt-ltb, le-ltb, eqb-true, leb-true}
+use lib.Dec.{eqb, leb, ltb}
+use lib.ListN.{length, take, drop, get_or, length-drop}
+use lib.Seq.{take_all}
+use Rattle.std.specs.List.{position_or_len}
+use Rattle.std.specs.Option.{unwrap_or}
+use Rattle.std.specs.Prelude.{Option, Some, None}
 use Rattle.lists.proofs.Cases.{either_lt, never, no_both}
 use Rattle.labels.specs.Label.{letter?, capital, label_length?}
-use Rattle.lines.proofs.Scans.{said_no, said_yes}
 use Rattle.label_book.specs.declared.Line.TheVariants.{Read, Bad}
 use Rattle.label_book.specs.Reading.{label_byte?, text_byte?, fits?, span, line?, label_span, text_span, line_of}
 
@@ -32,21 +33,29 @@ label_byte_fits text b k r e h q = q ∙ ap letter? h ∙ (rw e refl)
 pub ruleset fitting = (text_line_end, text_other, label_byte_fits)
 
 -- ── counting from the front ──
-module _ (f : ℕ → Bool) (s : List ℕ) (i : ℕ) (e : i + span f (drop i s) ≡ span f s) where
-  pub span-stops : i < length s → f (get_or s i 0) ≡ false → i ≡ span f s
-  span-stops h q =
-      let g : span f (drop i s) ≡ 0 = rw (drop-cons s i 0) (simp q) in
-      omega arith
+span_place : (f : ℕ → Bool) (s : List ℕ) → position_or_len (λ b. not (f b)) s ≡ span f s
+span_place f [] = refl
+span_place f (x ∷ s) = go (f x) (span_place f s)
+  where
+    go : (t : Bool) → position_or_len (λ b. not (f b)) s ≡ span f s → cond (not (not t)) (1 + position_or_len (λ b. not (f b)) s) 0 ≡ cond t (suc (span f s)) 0
+    go true h = omega arith
+    go false h = refl
 
-  pub span_goes : i < length s → f (get_or s i 0) ≡ true → i + 1 + span f (drop (i + 1) s) ≡ span f s
-  span_goes h q =
-      let g : span f (drop i s) ≡ suc (span f (drop (i + 1) s)) = rw (add-one, drop-cons s i 0) (simp q) in
-      omega arith
+span_long : (f : ℕ → Bool) (s : List ℕ) → span f s ≤ length s
+span_long f [] = omega arith
+span_long f (x ∷ s) = go (f x) (span_long f s)
+  where
+    go : (t : Bool) → span f s ≤ length s → cond t (suc (span f s)) 0 ≤ suc (length s)
+    go true h = omega arith
+    go false h = omega arith
 
-  pub span-ends : length s ≤ i → i ≡ span f s
-  span-ends h = omega (arith, rw (drop_of_length-le s h) at e)
-
-pub ruleset spans = (span-stops, span_goes, span-ends, said_no, said_yes)
+-- the place of the first byte that fails, or the length where there is none
+pub span_found : (f : ℕ → Bool) (s : List ℕ) (r : Option ℕ)
+    → r ≡ cond (ltb (position_or_len (λ b. not (f b)) s) (length s)) (Some (position_or_len (λ b. not (f b)) s)) None → unwrap_or r (length s) ≡ span f s
+span_found f s r e =
+    either_lt (position_or_len (λ b. not (f b)) s) (length s)
+    (λ h. rw (e, lt-ltb (position_or_len (λ b. not (f b)) s) (length s) h) (span_place f s))
+    (λ h. rw (e, le-ltb (position_or_len (λ b. not (f b)) s) (length s) h) (omega (arith, span_place f s, span_long f s)))
 
 -- ── bytes past the end ──
 past_end : (l : List ℕ) (n : ℕ) → length l ≤ n → get_or l n 0 ≡ 0

@@ -57,14 +57,9 @@ fn may_stand(text: bool, b: u8) -> bool
 fn count_fitting(s: &[u8], text: bool) -> usize
     ensures { result ≡ span (fits? text) s.now }
 {
-    let mut i: usize = 0;
-    while i < s.len() {
-        if !may_stand(text, s[i]) {
-            return i;
-        }
-        i += 1;
-    }
-    i
+    s.iter()
+        .position(|b| !may_stand(text, *b))
+        .unwrap_or(s.len())
 }
 
 // The line at the front of what is left of a book.
@@ -106,24 +101,17 @@ fn read_line(s: &[u8]) -> Line
 fn precedes(s: &[u8], t: &[u8]) -> bool
     ensures { result ≡ before? (capitals s.now) (capitals t.now) }
 {
-    let mut i: usize = 0;
-    while i < s.len() {
-        if t.len() <= i {
-            return false;
-        }
-        let p = s[i];
-        let q = t[i];
-        let x = labels::capital_byte(p);
-        let y = labels::capital_byte(q);
+    for (p, q) in s.iter().zip(t) {
+        let x = labels::capital_byte(*p);
+        let y = labels::capital_byte(*q);
         if x < y {
             return true;
         }
         if y < x {
             return false;
         }
-        i += 1;
     }
-    i < t.len()
+    s.len() < t.len()
 }
 
 // What is found once one line more is read. The first text that is found stays.
@@ -151,6 +139,7 @@ fn look_up(book: &[u8], label: &[u8]) -> Listing
     // the label of the line before
     let mut from: usize = 0;
     let mut to: usize = 0;
+    // Kept: no count, since each line says where the next begins; the places of a text are those that `piece_for` answers.
     while at < book.len() {
         let line = read_line(&book[at..]);
         let Line::Read(n, m) = line else {

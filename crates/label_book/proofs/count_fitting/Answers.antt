@@ -1,13 +1,12 @@
--- What was counted, and what is left to count, is the whole.
-use native.Mathlib.Omega.{arith}
-use Rattle.label_book.proofs.Lines.{spans}
+use Rattle.std.proofs.Common.{rules, tests, not, ◌∙◌}
+use Rattle.std.proofs.lemmas.Iterator.{YieldsList-from_slice}
+use Rattle.std.proofs.lemmas.Iterator.Search.{position_from_yields_List}
+use Rattle.label_book.specs.Reading.{fits?}
+use Rattle.label_book.proofs.Lines.{span_found}
 use Rattle.label_book.proofs.count_fitting.Goals as goal
 
-pub returns-then-not-may_stand : goal.returns-then-not-may_stand
-returns-then-not-may_stand c = search spans
-
-pub loop-i-preserved : goal.loop-i-preserved
-loop-i-preserved c = (omega arith, search spans)
-
 pub returns : goal.returns
-returns c = search spans
+returns c =
+    c.unwrap_or.ensures
+    ∙ span_found (fits? c.args.text) c.args.s.now _
+    (position_from_yields_List (λ x. not (fits? c.args.text x)) _ _ _ c.position.ensures.ran (YieldsList-from_slice c.args.s.now cc) (λ x b q k. search (rules, tests)))

@@ -7,7 +7,11 @@ use native.Mathlib.Omega.{arith}
 use native.Mathlib.Numerals.{add-one}
 use native.Mathlib.Nat.{mul-zero, mul-suc}
 use lib.ListN.{length, get_or, set, take, drop, length-append, length-set, get_or-append}
-use lib.Seq.{ext_get_or, get_or-append-add, take-suc-set, take_all, sets, sets-eq, length-sets}
+use lib.Seq.{ext_get_or, get_or-append-add, take-length, take-suc-set, take_all, sets, sets-eq, length-sets}
+use borrow.Rule.Slice.PartMut.{put_mid}
+use Rattle.std.specs.List.{between}
+use Rattle.std.proofs.lemmas.Slice.{put_mid-paste}
+use Rattle.std.proofs.lemmas.List.Edits.{length-between, get_or-between}
 use Rattle.lists.proofs.Cases.{either_lt}
 use Rattle.lists.proofs.Lists.{append-nil}
 use Rattle.record_bytes.specs.Joined.{joined, values, stored}
@@ -37,6 +41,13 @@ stored_one w p x = refl
 
 pub stored_first : {A : Type 0} (w v : List A) (p n : ℕ) (x : A) (xs : List A) → v ≡ stored (set w p x) n xs → n ≡ p + 1 → v ≡ stored w p (x ∷ xs)
 stored_first w v p n x xs e m = stored_after w (set w p x) v p n (x ∷ []) xs (stored_one w p x) e m
+
+-- a part of a buffer that another list is copied over
+pub stored_part : {A : Type 0} (w xs ys : List A) (p k : ℕ) → ys ≡ xs → length xs ≡ k → p + k ≤ length w → put_mid p k w ys ≡ stored w p xs
+unfolding stored
+stored_part w xs ys p k e long room =
+    put_mid-paste p k w ys xs (length xs) e long refl
+    ∙ (rw take-length (sym (sets-eq xs w p (omega arith))))
 
 -- ── lists of one length, one after another ──
 pub joined_none : {A : Type 0} (f : ℕ → List A) (l : List A) (at : ℕ) → l ≡ stored l at (joined 0 f)
@@ -90,6 +101,12 @@ module _ {A : Type 0} (f : ℕ → A) where
   values_are d n l long same =
       ext_get_or d (values n f) l (length_values n ∙ sym long)
       (λ i h. let low : i < n = omega (arith, length_values n) in value_at d n i low ∙ same i low)
+
+  -- the same of a part of a list
+  pub values_between : (d : A) (n p q : ℕ) (l : List A) → q ≡ p + n → q ≤ length l → ((i : ℕ) → f i ≡ get_or l (p + i) d) → values n f ≡ between p q l
+  values_between d n p q l e room same =
+      values_are d n (between p q l) (omega (arith, length-between l p q room))
+      (λ i low. same i ∙ sym (get_or-between l p q i d (omega arith)))
 
   -- value i stored behind the ones before it
   pub value_next : (l l₀ : List A) (at i n : ℕ) (x : A) → l ≡ stored l₀ at (values i f) → n ≡ at + i → x ≡ f i → set l n x ≡ stored l₀ at (values (i + 1) f)

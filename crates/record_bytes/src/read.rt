@@ -13,7 +13,7 @@ fn u16_at(bytes: &[u8], at: usize) -> u16
     requires { at + 1 < length bytes.now }
     ensures { result ≡ u16_at bytes.now at }
 {
-    (bytes[at] as u16) + 256 * (bytes[at + 1] as u16)
+    u16::from_le_bytes([bytes[at], bytes[at + 1]])
 }
 
 // Run i.
@@ -39,13 +39,9 @@ fn runs_from(bytes: &[u8]) -> [Run; MAX_RUNS]
     requires { record_size ≤ length bytes.now }
     ensures { result ≡ runs_from bytes.now }
 {
-    let first = run_at(bytes, 0);
-    let mut list = [first; MAX_RUNS];
-    let mut i: usize = 0;
-    while i < MAX_RUNS {
-        let r = run_at(bytes, i);
-        list[i] = r;
-        i += 1;
+    let mut list = [run_at(bytes, 0); MAX_RUNS];
+    for (i, run) in list.iter_mut().enumerate() {
+        *run = run_at(bytes, i);
     }
     list
 }
@@ -57,11 +53,7 @@ fn label_at(bytes: &[u8], i: usize) -> Label
 {
     let at = LABELS_AT + LABEL_BYTES * i;
     let mut text = [0u8; MAX_LABEL_BYTES];
-    let mut j: usize = 0;
-    while j < MAX_LABEL_BYTES {
-        text[j] = bytes[at + 1 + j];
-        j += 1;
-    }
+    text.copy_from_slice(&bytes[at + 1..at + LABEL_BYTES]);
     Label {
         bytes: text,
         length: bytes[at],
@@ -73,13 +65,9 @@ fn labels_from(bytes: &[u8]) -> [Label; MAX_LOG_LABELS]
     requires { record_size ≤ length bytes.now }
     ensures { result ≡ labels_from bytes.now }
 {
-    let first = label_at(bytes, 0);
-    let mut list = [first; MAX_LOG_LABELS];
-    let mut i: usize = 0;
-    while i < MAX_LOG_LABELS {
-        let x = label_at(bytes, i);
-        list[i] = x;
-        i += 1;
+    let mut list = [label_at(bytes, 0); MAX_LOG_LABELS];
+    for (i, label) in list.iter_mut().enumerate() {
+        *label = label_at(bytes, i);
     }
     list
 }
@@ -90,10 +78,8 @@ fn places_from(bytes: &[u8]) -> [LabelNo; LABEL_PLACES]
     ensures { result ≡ places_from bytes.now }
 {
     let mut list = [LabelNo(0); LABEL_PLACES];
-    let mut i: usize = 0;
-    while i < LABEL_PLACES {
-        list[i] = LabelNo(bytes[PLACES_AT + i]);
-        i += 1;
+    for (i, place) in list.iter_mut().enumerate() {
+        *place = LabelNo(bytes[PLACES_AT + i]);
     }
     list
 }

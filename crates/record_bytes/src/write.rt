@@ -5,7 +5,7 @@ ghost use Rattle.record_bytes.specs.Joined.{stored};
 ghost use Rattle.record_bytes.specs.Form.{runs_at, run_size, labels_at, label_size, places_at, record_size, u16_bytes, count_byte, head_bytes, run_bytes, runs_bytes, packed_label, labels_bytes, places_bytes, record_bytes};
 
 use crate::{LABEL_BYTES, LABEL_COUNT_AT, LABELS_AT, PLACES_AT, RUN_BYTES, RUN_COUNT_AT, RUNS_AT};
-use labels::{LABEL_PLACES, Label, LabelNo, MAX_LABEL_BYTES};
+use labels::{LABEL_PLACES, Label, LabelNo};
 use lists::{MAX_LOG_LABELS, MAX_RUNS};
 use trace::{Record, Run};
 
@@ -14,8 +14,7 @@ fn put_u16(out: &mut [u8], at: usize, n: u16)
     requires { at + 1 < length out.old }
     ensures { out.new ≡ stored out.old at (u16_bytes n) }
 {
-    out[at] = (n % 256) as u8;
-    out[at + 1] = (n / 256) as u8;
+    out[at..at + 2].copy_from_slice(&n.to_le_bytes());
 }
 
 // Run i.
@@ -35,11 +34,8 @@ fn put_runs(out: &mut [u8], list: [Run; MAX_RUNS])
     requires { record_size ≤ length out.old }
     ensures { out.new ≡ stored out.old runs_at (runs_bytes list) }
 {
-    let mut i: usize = 0;
-    while i < MAX_RUNS {
-        let r = list[i];
-        put_run(out, i, r);
-        i += 1;
+    for (i, run) in list.iter().enumerate() {
+        put_run(out, i, *run);
     }
 }
 
@@ -50,11 +46,7 @@ fn put_label(out: &mut [u8], i: usize, x: Label)
 {
     let at = LABELS_AT + LABEL_BYTES * i;
     out[at] = x.length;
-    let mut j: usize = 0;
-    while j < MAX_LABEL_BYTES {
-        out[at + 1 + j] = x.bytes[j];
-        j += 1;
-    }
+    out[at + 1..at + LABEL_BYTES].copy_from_slice(&x.bytes);
 }
 
 // The 64 labels.
@@ -62,11 +54,8 @@ fn put_labels(out: &mut [u8], list: [Label; MAX_LOG_LABELS])
     requires { record_size ≤ length out.old }
     ensures { out.new ≡ stored out.old labels_at (labels_bytes list) }
 {
-    let mut i: usize = 0;
-    while i < MAX_LOG_LABELS {
-        let x = list[i];
-        put_label(out, i, x);
-        i += 1;
+    for (i, label) in list.iter().enumerate() {
+        put_label(out, i, *label);
     }
 }
 
@@ -75,10 +64,8 @@ fn put_places(out: &mut [u8], list: [LabelNo; LABEL_PLACES])
     requires { record_size ≤ length out.old }
     ensures { out.new ≡ stored out.old places_at (places_bytes list) }
 {
-    let mut i: usize = 0;
-    while i < LABEL_PLACES {
-        out[PLACES_AT + i] = list[i].0;
-        i += 1;
+    for (i, place) in list.iter().enumerate() {
+        out[PLACES_AT + i] = place.0;
     }
 }
 

@@ -1,11 +1,7 @@
 -- The loop's invariant: the first i labels of the array are those of the form.
-use Prim.Native.Nat.{◌-◌, ◌≤◌}
 use Rattle.record_bytes.specs.Form.{label_from}
 use Rattle.record_bytes.proofs.Joined.{Filled}
 use Rattle.record_bytes.proofs.read.labels_from.Given as goal
 
 abbrev pub invariant-loop-i : goal.invariant-loop-i
-invariant-loop-i l = (l.i ≤ 64) × Filled (label_from l.bytes) 64 l.list l.i
-
-abbrev pub decreases-loop-i : goal.decreases-loop-i
-decreases-loop-i l = 64 - l.i
+invariant-loop-i l = Filled (label_from l.bytes) 64 l.label-items l.i

@@ -7,11 +7,11 @@ use Rattle.record_bytes.proofs.Joined.{none_filled, filled_next, filled_all}
 use Rattle.record_bytes.proofs.read.places_from.Goals as goal
 
 pub loop-i-init : goal.loop-i-init
-loop-i-init c = (search rules, (refl, none_filled _))
+loop-i-init c = (refl, none_filled _)
 
 pub loop-i-preserved : goal.loop-i-preserved
-loop-i-preserved c = (search rules, filled_next _ 128 c.loop-i.list c.loop-i.i _ c.loop-i.invariant.1 (search rules) refl)
+loop-i-preserved c = filled_next _ 128 c.loop-i.place-items c.loop-i.i _ c.loop-i.invariant (search rules) refl
 
 pub returns : goal.returns
 unfolding places_from
-returns c = filled_all _ 128 c.loop-i.list c.loop-i.i c.loop-i.invariant.1 (omega arith)
+returns c = filled_all _ 128 c.loop-i.place-items c.loop-i.i c.loop-i.invariant (omega arith)

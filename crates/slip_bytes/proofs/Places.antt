@@ -25,9 +25,9 @@ put_run (suc i) [] (x ∷ b) h = ap (λ (t : List ℕ). 0 ∷ t) (put_run i [] b
 put_run (suc i) (r ∷ l) (x ∷ b) h = ap (λ (t : List ℕ). r.0 ∷ t) (put_run i l b (omega arith))
 
 -- one run more
-pub put_next : (i : ℕ) (l : List RunNo) (b now : List ℕ) → i < length b → now ≡ numbers i l ++ drop i b
-    → set now i (get_or l i (run_no 0)).0 ≡ numbers (i + 1) l ++ drop (i + 1) b
-put_next i l b now h e = ap (λ (n : List ℕ). set n i (get_or l i (run_no 0)).0) e ∙ rw (add-one) (put_run i l b h)
+pub put_next : (i : ℕ) (l : List RunNo) (b now : List ℕ) (k : RunNo) → i < length b → k ≡ get_or l i (run_no 0) → now ≡ numbers i l ++ drop i b
+    → set now i k.0 ≡ numbers (i + 1) l ++ drop (i + 1) b
+put_next i l b now k h q e = ap₂ (λ (n : List ℕ) (r : RunNo). set n i r.0) e q ∙ rw (add-one) (put_run i l b h)
 
 pub put_all : (x : Slip) (i : ℕ) (b now : List ℕ) → i ≡ x.count → now ≡ numbers i x.run ++ drop i b → now ≡ runs_in (slip_runs x) b
 put_all x i b now e h =
@@ -41,13 +41,14 @@ pub places_none : (b : List ℕ) → replicate 4 (run_no 0) ≡ placed 0 b
 unfolding pad
 places_none b = refl
 
-pub place_next : (i : ℕ) (b : List ℕ) (run : List RunNo) → i < 4 → i < length b → run ≡ placed i b → set run i (run_no (get_or b i 0)) ≡ placed (i + 1) b
-place_next i b run low here e =
+pub place_next : (i : ℕ) (b : List ℕ) (run : List RunNo) (x : ℕ) → i < 4 → i < length b → x ≡ get_or b i 0 → run ≡ placed i b → set run i (run_no x) ≡ placed (i + 1) b
+place_next i b run x low here q e =
     let n : length (map run_no (take i b)) ≡ i = length-map (take i b) run_no ∙ length-take-le i b (omega arith) in
     let t : take (i + 1) b ≡ take i b ++ (get_or b i 0 ∷ []) = rw (add-one) (take-suc b i 0 here) in
-    ap₂ (λ (r : List RunNo) (k : ℕ). set r k (run_no (get_or b i 0))) e (sym n)
+    ap (λ (y : ℕ). set run i (run_no y)) q
+    ∙ (ap₂ (λ (r : List RunNo) (k : ℕ). set r k (run_no (get_or b i 0))) e (sym n)
     ∙ (set-pad (run_no 0) 4 (map run_no (take i b)) (run_no (get_or b i 0)) (omega arith)
-    ∙ ap (pad (run_no 0) 4) (sym (ap (map run_no) t ∙ map_last (take i b) (get_or b i 0))))
+    ∙ ap (pad (run_no 0) 4) (sym (ap (map run_no) t ∙ map_last (take i b) (get_or b i 0)))))
 
 pub place_all : (i : ℕ) (b : List ℕ) (run : List RunNo) → run ≡ placed i b → i ≤ 4 → length b ≤ i → run ≡ placed 4 b
 place_all i b run e low long =

@@ -21,12 +21,10 @@ pub fn slip_from(bytes: &[u8]) -> Slip
 {
     let n = bytes.len();
     let mut run = [RunNo(0); MAX_NESTED];
-    let mut i: usize = 0;
-    while i < MAX_NESTED && i < n {
-        run[i] = RunNo(bytes[i]);
-        i += 1;
+    for (i, byte) in bytes[..n.min(MAX_NESTED)].iter().enumerate() {
+        run[i] = RunNo(*byte);
     }
-    Slip { count: n, run: run }
+    Slip { count: n, run }
 }
 
 // The runs of a slip in the first bytes.
@@ -34,12 +32,8 @@ fn put_runs(x: Slip, bytes: &mut [u8])
     requires { (x.count ≤ max_nested) × (max_nested ≤ length bytes.old) }
     ensures { bytes.new ≡ runs_in (slip_runs x) bytes.old }
 {
-    let n = x.count;
-    let mut i: usize = 0;
-    while i < n {
-        let k = x.run[i];
-        bytes[i] = k.0;
-        i += 1;
+    for (i, run) in x.run[..x.count].iter().enumerate() {
+        bytes[i] = run.0;
     }
 }
 

@@ -1,20 +1,20 @@
 -- The counts of a record are those of its trace: a run counts as finished if its end line is not 0, and the loop over the runs adds
 -- them up from the front.
-use Prim.Native.Nat.{ℕ, ◌+◌, ◌-◌, ◌<◌, ◌≤◌}
-use mathlib.Core.Path.{◌≡◌, ap, sym, ◌∙◌}
-use mathlib.Core.Bool.{Bool, true, false}
-use mathlib.Core.List.{◌∷◌}
+use Prim.Native.Nat.{ℕ, ◌+◌, ◌-◌, ◌≤◌}
+use mathlib.Core.Path.{◌≡◌, refl, ap, sym, ◌∙◌}
+use mathlib.Core.Bool.{Bool, true, false, not, cond}
+use mathlib.Core.List.{List}
 use native.Mathlib.Omega.{arith}
-use native.Mathlib.Numerals.{add-one}
 use lib.Dec.{eqb, leb}
-use lib.ListN.{length, get_or, drop, drop_of_length-le}
-use lib.Seq.{drop-cons, get_or-take}
+use lib.ListN.{length}
 use borrow.Author.Tests.{eq-eqb, ne_eqb, leb-true, eqb-true}
-use Rattle.lists.proofs.Cases.{and_left, and_right}
+use Rattle.std.specs.List.{count_by}
+use Rattle.std.proofs.lemmas.List.Recursion.{is_count_by}
+use Rattle.lists.proofs.Cases.{and_left, and_right, either_bool}
 use Rattle.trace.specs.declared.Run.{Run}
 use Rattle.trace.specs.declared.RunTable.{RunTable}
 use Rattle.trace.specs.declared.Record.{Record}
-use Rattle.trace.specs.Trace.{Trace, no_run, end_line}
+use Rattle.trace.specs.Trace.{Trace, end_line}
 use Rattle.trace.specs.Steps.{held}
 use Rattle.trace.specs.Record.{record_of, Bounded}
 use Rattle.trace.specs.Orderly.{finished_runs}
@@ -30,35 +30,16 @@ use Rattle.pairs.proofs.Pairs.{held_trace_lem}
 use Rattle.single.proofs.LineMeans.{judged_same, judged-taken}
 
 -- ── finished runs ──
--- one run more
-module _ (t : RunTable) (long : length t.list ≡ 128) (few : t.count ≤ 128) (k i : ℕ) (h : i < t.count) where
-  abbrev run_here : Run
-  run_here = get_or t.list i no_run
+abbrev pub finished? : Run → Bool
+finished? r = not (eqb (end_line r) 0)
 
-  here : drop i (held t) ≡ run_here ∷ drop (i + 1) (held t)
-  here =
-      let m : i < length (held t) = omega (arith, length_held t long few) in
-      let g : get_or (held t) i no_run ≡ run_here = get_or-take t.count t.list i no_run h in
-      drop-cons (held t) i no_run m ∙ (λ j. g j ∷ drop (sym (add-one i) j) (held t))
-
-  pub count_open : end_line run_here ≡ 0 → (f : ℕ) → k + finished_runs (drop i (held t)) ≡ f → (m : ℕ) → m ≡ k → m + finished_runs (drop (i + 1) (held t)) ≡ f
-  unfolding finished_runs
-  count_open e f s m q =
-      let a : finished_runs (drop i (held t)) ≡ finished_runs (drop (i + 1) (held t)) = ap finished_runs here ∙ simp (eq-eqb (end_line run_here) 0 e) (omega arith) in
-      omega arith
-
-  pub count_finished : (end_line run_here ≡ 0 → ⊥) → (f : ℕ) → k + finished_runs (drop i (held t)) ≡ f → (m : ℕ) → m ≡ k + 1 → m + finished_runs (drop (i + 1) (held t)) ≡ f
-  unfolding finished_runs
-  count_finished e f s m q =
-      let a : finished_runs (drop i (held t)) ≡ 1 + finished_runs (drop (i + 1) (held t)) = ap finished_runs here ∙ simp (ne_eqb (end_line run_here) 0 e) in
-      omega arith
-
-pub count_all : (t : RunTable) → length t.list ≡ 128 → t.count ≤ 128 → (k i f : ℕ) → t.count ≤ i → k + finished_runs (drop i (held t)) ≡ f → k ≡ f
+-- they are counted
+pub finished_counted : (rs : List Run) → finished_runs rs ≡ count_by finished? rs
 unfolding finished_runs
-count_all t long few k i f h s =
-    let m : length (held t) ≤ i = omega (arith, length_held t long few) in
-    let a : finished_runs (drop i (held t)) ≡ 0 = ap finished_runs (drop_of_length-le (held t) m) in
-    omega arith
+finished_counted = is_count_by finished_runs finished? refl counted_one
+  where
+    counted_one : (r : Run) (rs : List Run) → cond (eqb (end_line r) 0) 0 1 + finished_runs rs ≡ cond (finished? r) (1 + finished_runs rs) (finished_runs rs)
+    counted_one r rs = either_bool (eqb (end_line r) 0) (λ e. simp e (omega arith)) (λ e. simp e)
 
 pub finished_table : (t : RunTable) → length t.list ≡ 128 → t.count ≤ 128 → (n : ℕ) → n ≡ finished_runs (held t) → n ≤ t.count
 finished_table t long few n e = omega (arith, e, finished_few (held t), length_held t long few)

@@ -29,17 +29,8 @@ fn finished_count(t: RunTable) -> u32
     requires { t.count ≤ max_runs }
     ensures { result ≡ finished_runs (held t) }
 {
-    let n = t.count;
-    let mut finished: u32 = 0;
-    let mut i: usize = 0;
-    while i < n {
-        let r = t.list[i];
-        if r.end.0 != 0 {
-            finished += 1;
-        }
-        i += 1;
-    }
-    finished
+    let runs = t.list[..t.count].iter();
+    runs.filter(|run| run.end.0 != 0).count() as u32
 }
 
 // The tally of a record, with the count of failing lines.

@@ -84,11 +84,11 @@ module _ (log : List ℕ) (n : ℕ) where
       let e : place ≡ end_of log n = omega (arith, r.left, none) in
       record { within = r.within; bytes = ap (λ (i : ℕ). take i log) e ∙ end_bytes log n }
 
-  pub reached_end : (passed place : ℕ) → length log ≤ place → Reached log n passed place → EndsLines log n place
+  pub reached_end : (passed place : ℕ) → length log ≤ place → Reached log n passed place → EndsLines log n (length log)
   reached_end passed place h r =
       let none : end_of (drop place log) (n - passed) ≤ 0 = omega (arith, end_within (drop place log) (n - passed), length-drop place log) in
-      let e : place ≡ end_of log n = omega (arith, r.left, none) in
-      record { within = r.within; bytes = ap (λ (i : ℕ). take i log) e ∙ end_bytes log n }
+      let e : length log ≡ end_of log n = omega (arith, r.left, r.within, none) in
+      record { within = omega arith; bytes = ap (λ (i : ℕ). take i log) e ∙ end_bytes log n }
 
 -- the log up to the place has as many bytes
 pub end_cuts : (log : List ℕ) (n e : ℕ) → EndsLines log n e → e ≡ length (take e log)

@@ -1,12 +1,12 @@
 -- Reading all lines first and writing the verdict bytes afterwards gives what the lines give one after another. The lines that are
 -- taken are an accepted log of their own; its timeline has the verdict of each of its first lines, and that is the byte of the line.
 use Prim.Native.Nat.{ℕ, zero, suc, ◌+◌, ◌<◌, ◌≤◌}
-use mathlib.Core.Path.{◌≡◌, refl, ap, sym, ◌∙◌, subst}
+use mathlib.Core.Path.{◌≡◌, refl, ap, sym, ◌∙◌}
 use mathlib.Core.List.{List, [], ◌∷◌, ◌++◌}
 use native.Mathlib.Omega.{arith}
 use native.Mathlib.Numerals.{add-one}
-use lib.ListN.{length, get_or, set, take, length-append, length-set}
-use lib.Seq.{take-append-le, take-append_seam, ext_get_or, get_or-set_same, get_or-set_other}
+use lib.ListN.{length, get_or, take, length-append}
+use lib.Seq.{take-append-le, take-append_seam, ext_get_or}
 use Rattle.lists.proofs.Lists.{append-nil}
 use Rattle.lists.proofs.Cases.{either_lt, no_both}
 use Rattle.lines.specs.Log.{lines_of, flat}
@@ -212,30 +212,5 @@ module _ (lay : Layout) (log w : List ℕ) (a : LogRead) (v : List ℕ) (read : 
       → ◌≡◌ {A = LogRead × List ℕ × List ℕ} (a, v, o) (lines_from lay file x no_trace (lines_of log) w out)
   judged_at_once file x out room y j o f = read_at_once file x out room (verdict_at y) (λ k t s l e. judged_line log a got_state file x k t l e y j) o f
 
--- ── the loop that writes the bytes ──
 pub runs_fit : (file : List ℕ) (x : Rule) (r : Record) (y : Timeline) → JudgesAll file x r y → FitsRuns y
 runs_fit file x r y j = j.fits
-
-pub fits_at : (y : Timeline) → FitsRuns y → (l : ℕ) → get_or y.done l 0 ≤ 128
-fits_at y f l = f l
-
-module _ (y : ℕ → Verdict) (out : List ℕ) where
-  pub written_none : Written y 0 out out
-  written_none = record { bytes = λ k h. absurd (omega arith); rest = λ k h. refl; size = refl }
-
-  pub written_more : (n : ℕ) (o : List ℕ) (b : ℕ) → n < length o → Written y n out o → b ≡ verdict_byte (y (n + 1)) → Written y (n + 1) out (set o n b)
-  written_more n o b room f e =
-      record {
-        bytes = λ k h.
-            either_lt k n
-            (λ l. get_or-set_other o n k b 0 (λ z. omega arith) ∙ f.bytes k l)
-            (λ l.
-            let z : n ≡ k = omega arith in
-            ap (λ (i : ℕ). get_or (set o n b) i 0) (sym z)
-            ∙ (get_or-set_same o n b 0 room ∙ (e ∙ ap (λ (i : ℕ). verdict_byte (y (i + 1))) z)));
-        rest = λ k h. get_or-set_other o n k b 0 (λ z. omega arith) ∙ f.rest k (omega arith);
-        size = length-set o n b ∙ f.size;
-      }
-
-  pub written_all : (n k : ℕ) (o : List ℕ) → n ≤ k → k ≤ n → Written y k out o → Written y n out o
-  written_all n k o d h f = subst (λ (i : ℕ). Written y i out o) (omega arith) f

@@ -29,10 +29,8 @@ fn write_up_to(n: usize, lines: usize, verdicts: &mut [u8])
     requires { (lines ≤ max_lines) × (max_lines ≤ length verdicts.old) }
     ensures { Written (verdict_up_to n) lines verdicts.old verdicts.new }
 {
-    let mut k: usize = 0;
-    while k < lines {
-        verdicts[k] = byte_up_to(n, k + 1);
-        k += 1;
+    for (k, byte) in verdicts[..lines].iter_mut().enumerate() {
+        *byte = byte_up_to(n, k + 1);
     }
 }
 
@@ -47,16 +45,14 @@ fn ends_line(b: u8) -> usize
 fn end_of(log: &[u8], n: usize) -> usize
     ensures { EndsLines log.now n result }
 {
-    let mut place: usize = 0;
     let mut passed: usize = 0;
-    while place < log.len() {
+    for (place, b) in log.iter().enumerate() {
         if passed == n {
             return place;
         }
-        passed += ends_line(log[place]);
-        place += 1;
+        passed += ends_line(*b);
     }
-    place
+    log.len()
 }
 
 // What is read of the first n lines of a log, all of them for 0, where a is read of the whole.

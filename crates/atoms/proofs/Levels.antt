@@ -13,7 +13,7 @@ use Rattle.atoms.specs.Readers.{Enters}
 use Rattle.signs.proofs.Places.{step}
 
 abbrev pub Looked : List ℕ → ℕ → ℕ → ℕ → Type 0
-Looked ns x found i = (level ns x ≡ level_from i found (drop i ns) x) × (i ≤ length ns)
+Looked ns x found i = level ns x ≡ level_from i found (drop i ns) x
 
 module _ (ns : List ℕ) (x found i : ℕ) (v : Looked ns x found i) where
   pub level_here : i < length ns → get_or ns i 0 ≡ x → (f : ℕ) → f ≡ i → Looked ns x f (i + 1)
@@ -21,20 +21,20 @@ module _ (ns : List ℕ) (x found i : ℕ) (v : Looked ns x found i) where
   level_here h e f q =
       let a : level_from i found (drop i ns) x ≡ level_from (suc i) i (drop (i + 1) ns) x =
       ap (λ (l : List ℕ). level_from i found l x) (step ns i h) ∙ ap (λ (c : Bool). level_from (suc i) (cond c i found) (drop (i + 1) ns) x) (eq-eqb (get_or ns i 0) x e) in
-      (v.0 ∙ (a ∙ (ap (λ (j : ℕ). level_from j i (drop (i + 1) ns) x) (sym (add-one i)) ∙ ap (λ (j : ℕ). level_from (i + 1) j (drop (i + 1) ns) x) (sym q))), omega arith)
+      v ∙ (a ∙ (ap (λ (j : ℕ). level_from j i (drop (i + 1) ns) x) (sym (add-one i)) ∙ ap (λ (j : ℕ). level_from (i + 1) j (drop (i + 1) ns) x) (sym q)))
 
   pub level_other : i < length ns → (get_or ns i 0 ≡ x → ⊥) → (f : ℕ) → f ≡ found → Looked ns x f (i + 1)
   unfolding level_from
   level_other h e f q =
       let a : level_from i found (drop i ns) x ≡ level_from (suc i) found (drop (i + 1) ns) x =
       ap (λ (l : List ℕ). level_from i found l x) (step ns i h) ∙ ap (λ (c : Bool). level_from (suc i) (cond c i found) (drop (i + 1) ns) x) (ne_eqb (get_or ns i 0) x e) in
-      (v.0 ∙ (a ∙ (ap (λ (j : ℕ). level_from j found (drop (i + 1) ns) x) (sym (add-one i)) ∙ ap (λ (j : ℕ). level_from (i + 1) j (drop (i + 1) ns) x) (sym q))), omega arith)
+      v ∙ (a ∙ (ap (λ (j : ℕ). level_from j found (drop (i + 1) ns) x) (sym (add-one i)) ∙ ap (λ (j : ℕ). level_from (i + 1) j (drop (i + 1) ns) x) (sym q)))
 
   pub level_end : length ns ≤ i → found ≡ level ns x
   unfolding level_from
   level_end h =
       let a : level_from i found (drop i ns) x ≡ found = rw (drop_of_length-le ns h) in
-      sym (v.0 ∙ a)
+      sym (v ∙ a)
 
 -- ── one more ──
 module _ (ns : List ℕ) (d x : ℕ) (long : length ns ≡ 64) where

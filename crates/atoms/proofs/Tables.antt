@@ -42,32 +42,26 @@ closed_or t0 t1 t2 t3 k n x y z =
       long = z.long ∙ (y.long ∙ x.long);
     }
 
--- ── nots: i of c are stored ──
+-- ── nots: those before node i are stored ──
 pub record Nots (tb0 : List ℕ) (n c : ℕ) (tb : List ℕ) (i : ℕ) : Type 0 where
-  pub same : put_nots tb (n + i) (c - i) ≡ put_nots tb0 n c
-  pub few : i ≤ c
+  pub same : put_nots tb i (n + c - i) ≡ put_nots tb0 n c
   pub long : length tb ≡ length tb0
 
-pub nots_none : (tb : List ℕ) (n c : ℕ) → Nots tb n c tb 0
-nots_none tb n c =
-    let e : n + 0 ≡ n = omega arith in
-    let f : c - 0 ≡ c = omega arith in
-    record { same = ap (λ (j : ℕ). put_nots tb j (c - 0)) e ∙ ap (λ (j : ℕ). put_nots tb n j) f; few = omega arith; long = refl }
+pub nots_none : (tb : List ℕ) (n c : ℕ) → Nots tb n c tb n
+nots_none tb n c = record { same = (let e : n + c - n ≡ c = omega arith in ap (put_nots tb n) e); long = refl }
 
 module _ (tb0 : List ℕ) (n c : ℕ) (tb : List ℕ) (i : ℕ) (v : Nots tb0 n c tb i) where
-  pub nots_more : i < c → (tb1 : List ℕ) → Stored tb (put tb (n + i) 2 (n + i - 1) 0) tb1 → Nots tb0 n c tb1 (i + 1)
+  pub nots_more : i < n + c → (tb1 : List ℕ) → Stored tb (put tb i 2 (i - 1) 0) tb1 → Nots tb0 n c tb1 (i + 1)
   unfolding put_nots
   nots_more h tb1 w =
-      let e : c - i ≡ suc (c - (i + 1)) = omega arith in
-      let f : n + i + 1 ≡ n + (i + 1) = omega arith in
-      let a : put_nots tb (n + i) (c - i) ≡ put_nots (put tb (n + i) 2 (n + i - 1) 0) (n + i + 1) (c - (i + 1)) = ap (λ (j : ℕ). put_nots tb (n + i) j) e in
-      let b : put_nots (put tb (n + i) 2 (n + i - 1) 0) (n + i + 1) (c - (i + 1)) ≡ put_nots tb1 (n + (i + 1)) (c - (i + 1)) =
-      ap (λ (j : ℕ). put_nots (put tb (n + i) 2 (n + i - 1) 0) j (c - (i + 1))) f ∙ ap (λ (t : List ℕ). put_nots t (n + (i + 1)) (c - (i + 1))) (sym w.answer) in
-      record { same = sym (a ∙ b) ∙ v.same; few = omega arith; long = w.long ∙ v.long }
+      let e : n + c - i ≡ suc (n + c - (i + 1)) = omega arith in
+      let a : put_nots tb i (n + c - i) ≡ put_nots (put tb i 2 (i - 1) 0) (i + 1) (n + c - (i + 1)) = ap (put_nots tb i) e in
+      let b : put_nots (put tb i 2 (i - 1) 0) (i + 1) (n + c - (i + 1)) ≡ put_nots tb1 (i + 1) (n + c - (i + 1)) = ap (λ (t : List ℕ). put_nots t (i + 1) (n + c - (i + 1))) (sym w.answer) in
+      record { same = sym (a ∙ b) ∙ v.same; long = w.long ∙ v.long }
 
-  pub nots_all : c ≤ i → Stored tb0 (put_nots tb0 n c) tb
+  pub nots_all : n + c ≤ i → Stored tb0 (put_nots tb0 n c) tb
   unfolding put_nots
   nots_all h =
-      let e : c - i ≡ 0 = omega arith in
-      let a : put_nots tb (n + i) (c - i) ≡ tb = ap (λ (j : ℕ). put_nots tb (n + i) j) e in
+      let e : n + c - i ≡ 0 = omega arith in
+      let a : put_nots tb i (n + c - i) ≡ tb = ap (put_nots tb i) e in
       record { answer = sym a ∙ v.same; long = v.long }

@@ -9,12 +9,10 @@ pub fn level(names: &[usize], x: usize) -> usize
     ensures { result ≡ level_of names.now x }
 {
     let mut found: usize = 255;
-    let mut i: usize = 0;
-    while i < names.len() {
-        if names[i] == x {
+    for (i, name) in names.iter().enumerate() {
+        if *name == x {
             found = i;
         }
-        i += 1;
     }
     found
 }

@@ -42,9 +42,7 @@ pub fn put_nots(table: &mut [usize], n: usize, c: usize)
     requires { (192 ≤ length table.old) × (1 ≤ n) × (n + c ≤ 65536) }
     ensures { Stored table.old (put_nots table.old n c) table.new }
 {
-    let mut i: usize = 0;
-    while i < c {
-        put(table, n + i, 2, n + i - 1, 0);
-        i += 1;
+    for i in n..n + c {
+        put(table, i, 2, i - 1, 0);
     }
 }

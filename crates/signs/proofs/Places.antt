@@ -1,6 +1,6 @@
 -- Places in a text: what stands at one, and what is found there.
 use Prim.Native.Nat.{ℕ, ◌+◌, ◌<◌, ◌≤◌}
-use mathlib.Core.Path.{◌≡◌, refl, sym, ◌∙◌}
+use mathlib.Core.Path.{◌≡◌, refl, sym, ap, ◌∙◌}
 use mathlib.Core.Bool.{Bool, true, false, not}
 use mathlib.Core.List.{List, [], ◌∷◌}
 use native.Mathlib.Omega.{arith}
@@ -46,11 +46,14 @@ module _ (s : List ℕ) (at p c : ℕ) (b : Behind s at p) where
 pub ruleset one-sign = (one_found, one_other, one_none)
 
 -- the loop over spaces and LFs
-pub passed_blank : (s : List ℕ) (at i : ℕ) → (skip (drop at s) ≡ skip (drop i s)) × (at ≤ i) × (i ≤ length s) → i < length s → (b : Bool) → b ≡ blank? (get_or s i 0) → not b ≡ false → (skip (drop at s) ≡ skip (drop (i + 1) s)) × (at ≤ i + 1) × (i + 1 ≤ length s)
-passed_blank s at i v h b q e = (v.0 ∙ skip_blank s i h (sym q ∙ not-false b e), omega arith, omega arith)
+module _ (s : List ℕ) (at i : ℕ) (v : skip (drop at s) ≡ skip (drop i s)) where
+  pub passed_blank : i < length s → (b : Bool) → b ≡ blank? (get_or s i 0) → not b ≡ false → skip (drop at s) ≡ skip (drop (i + 1) s)
+  passed_blank h b q e = v ∙ skip_blank s i h (sym q ∙ not-false b e)
 
-pub at_sign : (s : List ℕ) (at i : ℕ) → (skip (drop at s) ≡ skip (drop i s)) × (at ≤ i) × (i ≤ length s) → i < length s → (b : Bool) → b ≡ blank? (get_or s i 0) → not b ≡ true → Behind s at i
-at_sign s at i v h b q e = record { answer = v.0 ∙ skip_sign s i h (sym q ∙ not-true b e); ahead = v.1; inside = v.2 }
+  pub at_sign : at ≤ i → i < length s → (b : Bool) → b ≡ blank? (get_or s i 0) → not b ≡ true → Behind s at i
+  at_sign a h b q e = record { answer = v ∙ skip_sign s i h (sym q ∙ not-true b e); ahead = a; inside = omega arith }
 
-pub at_end : (s : List ℕ) (at i : ℕ) → (skip (drop at s) ≡ skip (drop i s)) × (at ≤ i) × (i ≤ length s) → length s ≤ i → Behind s at i
-at_end s at i v h = record { answer = v.0 ∙ skip_end s i h; ahead = v.1; inside = v.2 }
+  pub at_end : at ≤ length s → length s ≤ i → i ≤ length s → Behind s at (length s)
+  at_end a h l =
+      let e : i ≡ length s = omega arith in
+      record { answer = v ∙ (skip_end s i h ∙ ap (λ (j : ℕ). drop j s) e); ahead = a; inside = omega arith }

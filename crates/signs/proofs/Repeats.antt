@@ -31,5 +31,7 @@ module _ (text w : List ℕ) (at : ℕ) where
     pub run_ended : (r : Found) → FindsSign text p (sign w (drop p text)) r → r ≡ Found.Nothing → Runs text w at most (record { count = n; at = p })
     run_ended r x e = record { marked = m; ended = λ h. no_sign text p (sign w (drop p text)) r x e; few = few }
 
-    pub run_full : most ≤ n → Runs text w at most (record { count = n; at = p })
-    run_full h = record { marked = m; ended = λ l. absurd (omega arith); few = few }
+    pub run_full : most ≤ n → Runs text w at most (record { count = most; at = p })
+    run_full h =
+        let e : n ≡ most = omega arith in
+        record { marked = subst (λ (j : ℕ). Marked text w at j p) e m; ended = λ l. absurd (omega arith); few = omega arith }

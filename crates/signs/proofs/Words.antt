@@ -1,48 +1,51 @@
--- A sign of several bytes, byte by byte.
-use Prim.Native.Nat.{ℕ, ◌+◌, ◌-◌, ◌<◌, ◌≤◌}
+-- A sign of several bytes.
+use Prim.Native.Nat.{ℕ, ◌+◌, ◌-◌, ◌≤◌}
 use mathlib.Core.Path.{◌≡◌, refl, sym, ap, ◌∙◌}
+use mathlib.Core.Bool.{Bool, true, false, not}
 use mathlib.Core.Option.{none, some}
-use mathlib.Core.List.{List}
+use mathlib.Core.List.{List, [], ◌∷◌}
 use native.Mathlib.Omega.{arith}
-use lib.ListN.{length, get_or, drop, drop_of_length-le}
-use borrow.Author.Tests.{eq-eqb, ne_eqb}
+use lib.Dec.{eqb}
+use lib.ListN.{length, drop, length-drop}
+use lib.Seq.{drop-drop}
+use borrow.Author.Tests.{eq-eqb, ne_eqb, not-true, not-false}
+use Rattle.std.specs.List.{starts_with, between}
+use Rattle.std.proofs.lemmas.Slice.{between_to_end}
+use Rattle.lists.proofs.Cases.{either_eq, no_both}
 use Rattle.signs.specs.Signs.{behind, sign}
 use Rattle.signs.specs.Finding.{FindsSign, Behind}
 use Rattle.signs.specs.declared.Found.{Found}
-use Rattle.signs.proofs.Places.{step}
 
--- i bytes agree
-abbrev pub Agree : List ℕ → List ℕ → ℕ → ℕ → Type 0
-Agree s w p i = (behind w (drop p s) ≡ behind (drop i w) (drop (p + i) s)) × (i ≤ length w) × (p + i ≤ length s)
+-- the bytes w in front, and what is left behind them
+behind_start : (w s : List ℕ) → starts_with eqb s w ≡ true → behind w s ≡ some (drop (length w) s)
+behind_start [] s e = refl
+behind_start (c ∷ w) [] e = no_both (sym e)
+behind_start (c ∷ w) (b ∷ s) e =
+    either_eq c b
+    (λ q. let e = simp (eq-eqb c b q) at e in simp (eq-eqb b c (sym q)) (behind_start w s e))
+    (λ q. let e = simp (ne_eqb c b q) at e in no_both (sym e))
 
-pub agree_none : (s w : List ℕ) (at p : ℕ) → Behind s at p → Agree s w p 0
-agree_none s w at p b = let e : p + 0 ≡ p = omega arith in (ap (λ (j : ℕ). behind w (drop j s)) (sym e), omega arith, omega (arith, b.inside))
+behind_other : (w s : List ℕ) → starts_with eqb s w ≡ false → behind w s ≡ none
+behind_other [] s e = no_both e
+behind_other (c ∷ w) [] e = refl
+behind_other (c ∷ w) (b ∷ s) e =
+    either_eq c b
+    (λ q. let e = simp (eq-eqb c b q) at e in simp (eq-eqb b c (sym q)) (behind_other w s e))
+    (λ q. simp (ne_eqb b c (λ z. q (sym z))) refl)
 
-module _ (s w : List ℕ) (p i : ℕ) (v : Agree s w p i) where
-  pub agree_more : p ≤ length s → i < length w → i < length s - p → get_or s (p + i) 0 ≡ get_or w i 0 → Agree s w p (i + 1)
-  agree_more z h m e =
-      let l : p + i < length s = omega arith in
-      let a : behind (drop i w) (drop (p + i) s) ≡ behind (drop (i + 1) w) (drop (p + i + 1) s) = rw (step w i h, step s (p + i) l) (simp (eq-eqb (get_or s (p + i) 0) (get_or w i 0) e)) in
-      let c : p + i + 1 ≡ p + (i + 1) = omega arith in
-      (v.0 ∙ (a ∙ ap (λ (j : ℕ). behind (drop (i + 1) w) (drop j s)) c), omega arith, omega arith)
+module _ (s w : List ℕ) (at p : ℕ) (b : Behind s at p) (r : Bool) (q : r ≡ starts_with eqb (between p (length s) s) w) where
+  rest : between p (length s) s ≡ drop p s
+  rest = between_to_end s p (length s) (omega arith)
 
-  module _ (at : ℕ) (b : Behind s at p) where
-    pub word_short : i < length w → length s - p ≤ i → FindsSign s at (sign w (drop at s)) Found.Nothing
-    unfolding sign
-    word_short h l =
-        let g : length s ≤ p + i = omega (arith, b.inside) in
-        let a : behind (drop i w) (drop (p + i) s) ≡ none = rw (step w i h, drop_of_length-le s g) in
-        record { says = rw (b.answer, v.0 ∙ a) tt }
+  pub word_other : not r ≡ true → FindsSign s at (sign w (drop at s)) Found.Nothing
+  unfolding sign
+  word_other e =
+      let h : starts_with eqb (drop p s) w ≡ false = ap (λ (l : List ℕ). starts_with eqb l w) (sym rest) ∙ (sym q ∙ not-true r e) in
+      record { says = rw (b.answer, behind_other w (drop p s) h) tt }
 
-    pub word_other : i < length w → i < length s - p → (get_or s (p + i) 0 ≡ get_or w i 0 → ⊥) → FindsSign s at (sign w (drop at s)) Found.Nothing
-    unfolding sign
-    word_other h m e =
-        let l : p + i < length s = omega (arith, b.inside) in
-        let a : behind (drop i w) (drop (p + i) s) ≡ none = rw (step w i h, step s (p + i) l) (simp (ne_eqb (get_or s (p + i) 0) (get_or w i 0) e)) in
-        record { says = rw (b.answer, v.0 ∙ a) tt }
-
-    pub word_found : 1 ≤ length w → length w ≤ i → FindsSign s at (sign w (drop at s)) (Found.At (p + i))
-    unfolding sign
-    word_found h l =
-        let a : behind (drop i w) (drop (p + i) s) ≡ some (drop (p + i) s) = rw (drop_of_length-le w l) in
-        record { says = rw (b.answer, v.0 ∙ a) (refl, omega (arith, b.ahead), v.2) }
+  pub word_found : 1 ≤ length w → not r ≡ false → (r ≡ true → length w ≤ length (between p (length s) s)) → FindsSign s at (sign w (drop at s)) (Found.At (p + length w))
+  unfolding sign
+  word_found l e m =
+      let h : starts_with eqb (drop p s) w ≡ true = ap (λ (l : List ℕ). starts_with eqb l w) (sym rest) ∙ (sym q ∙ not-false r e) in
+      let n : length w ≤ length s - p = omega (arith, m (not-false r e), ap length rest, length-drop p s) in
+      record { says = rw (b.answer, behind_start w (drop p s) h) (drop-drop (length w) p s, omega (arith, b.ahead), omega (arith, b.inside)) }

@@ -32,41 +32,20 @@ pub struct Run {
 fn is_blank(b: u8) -> bool
     ensures { result ≡ blank? b }
 {
-    if b == 32 {
-        return true;
-    }
-    b == 10
+    b == b' ' || b == b'\n'
 }
 
 fn is_capital(b: u8) -> bool
     ensures { result ≡ capital? b }
 {
-    if b < 65 {
-        return false;
-    }
-    b <= 90
+    b.is_ascii_uppercase()
 }
 
 // Whether a byte goes on with a name.
 fn is_word_byte(b: u8) -> bool
     ensures { result ≡ word_byte? b }
 {
-    if b < 48 {
-        return false;
-    }
-    if b <= 57 {
-        return true;
-    }
-    if b < 65 {
-        return false;
-    }
-    if b <= 90 {
-        return true;
-    }
-    if b < 97 {
-        return false;
-    }
-    b <= 122
+    b.is_ascii_alphanumeric()
 }
 
 // The place of the next byte that is neither space nor LF.
@@ -74,14 +53,12 @@ pub fn skip(text: &[u8], at: usize) -> usize
     requires { at ≤ length text.now }
     ensures { Behind text.now at result }
 {
-    let mut i = at;
-    while i < text.len() {
+    for i in at..text.len() {
         if !is_blank(text[i]) {
             return i;
         }
-        i += 1;
     }
-    i
+    text.len()
 }
 
 // A sign of one byte.
@@ -104,16 +81,14 @@ pub fn repeated(text: &[u8], at: usize, c: u8, most: usize) -> Run
     ensures { Runs text.now (c ∷ []) at most result }
 {
     let mut p = at;
-    let mut n: usize = 0;
-    while n < most {
+    for n in 0..most {
         let mark = sign(text, p, c);
         let Found::At(q) = mark else {
             return Run { count: n, at: p };
         };
         p = q;
-        n += 1;
     }
-    Run { count: n, at: p }
+    Run { count: most, at: p }
 }
 
 // A sign of several bytes.
@@ -122,17 +97,10 @@ fn keyword(text: &[u8], at: usize, w: &[u8]) -> Found
     ensures { FindsSign text.now at (sign_of w.now (drop at text.now)) result }
 {
     let p = skip(text, at);
-    let mut i: usize = 0;
-    while i < w.len() {
-        if text.len() - p <= i {
-            return Found::Nothing;
-        }
-        if text[p + i] != w[i] {
-            return Found::Nothing;
-        }
-        i += 1;
+    if !text[p..].starts_with(w) {
+        return Found::Nothing;
     }
-    Found::At(p + i)
+    Found::At(p + w.len())
 }
 
 pub fn exist_sign(text: &[u8], at: usize) -> Found
@@ -149,11 +117,8 @@ pub fn same_sign(text: &[u8], at: usize) -> Found
     keyword(text, at, b"same")
 }
 
-fn wide(b: u8) -> usize
-    ensures { (result ≡ b) × (result < 256) }
-{
-    b as usize
-}
+// The most letters and digits behind the capital of a name.
+const NAME_REST: usize = 7;
 
 // A name as a number.
 pub fn name(text: &[u8], at: usize) -> Word
@@ -175,19 +140,17 @@ fn name_rest(text: &[u8], p: usize) -> Word
     requires { p < length text.now }
     ensures { ReadsWord text.now p (name_more 7 (get_or text.now p 0) (drop (p + 1) text.now)) result }
 {
-    let mut n = wide(text[p]);
-    let mut i: usize = 1;
-    while i < text.len() - p {
-        if !is_word_byte(text[p + i]) {
-            return Word::Word(n, p + i);
+    let mut n = usize::from(text[p]);
+    for (i, b) in text[p + 1..].iter().enumerate() {
+        if !is_word_byte(*b) {
+            return Word::Word(n, p + 1 + i);
         }
-        if i == 8 {
+        if i == NAME_REST {
             return Word::Nothing;
         }
-        n = 256 * n + wide(text[p + i]);
-        i += 1;
+        n = 256 * n + usize::from(*b);
     }
-    Word::Word(n, p + i)
+    Word::Word(n, text.len())
 }
 
 // The place of the first quote.
@@ -195,12 +158,10 @@ fn quote(text: &[u8], at: usize) -> Found
     requires { at ≤ length text.now }
     ensures { FindsQuote text.now at result }
 {
-    let mut i = at;
-    while i < text.len() {
-        if text[i] == 39 {
+    for i in at..text.len() {
+        if text[i] == b'\'' {
             return Found::At(i + 1);
         }
-        i += 1;
     }
     Found::Nothing
 }

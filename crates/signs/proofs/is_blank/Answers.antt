@@ -1,9 +1,9 @@
 -- The comparisons decide.
-use Rattle.signs.proofs.Bytes.{byte-tests}
+use Rattle.signs.proofs.Bytes.{blank_space, blank_else}
 use Rattle.signs.proofs.is_blank.Goals as goal
 
 pub returns-then-b-eq32 : goal.returns-then-b-eq32
-returns-then-b-eq32 c = search byte-tests
+returns-then-b-eq32 c = search blank_space
 
-pub returns : goal.returns
-returns c = search byte-tests
+pub returns-else-b-eq32 : goal.returns-else-b-eq32
+returns-else-b-eq32 c = search blank_else

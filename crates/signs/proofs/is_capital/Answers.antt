@@ -1,9 +1,6 @@
--- The comparisons decide.
-use Rattle.signs.proofs.Bytes.{byte-tests}
+use Rattle.signs.specs.Signs.{capital?}
 use Rattle.signs.proofs.is_capital.Goals as goal
 
-pub returns-then-b-lt65 : goal.returns-then-b-lt65
-returns-then-b-lt65 c = search byte-tests
-
 pub returns : goal.returns
-returns c = search byte-tests
+unfolding capital?
+returns c = c.is_ascii_uppercase.ensures.value

@@ -5,13 +5,13 @@ use Rattle.signs.proofs.Repeats.{marked_none, marked_more, run_ended, run_full}
 use Rattle.signs.proofs.repeated.Goals as goal
 
 pub loop-n-init : goal.loop-n-init
-loop-n-init c = (marked_none _ _ _, search rules, search rules)
+loop-n-init c = (marked_none _ _ _, search rules)
 
 pub returns-in_default : goal.returns-in_default
-returns-in_default c = search run_ended
+returns-in_default c = search (rules, run_ended)
 
 pub loop-n-preserved : goal.loop-n-preserved
-loop-n-preserved c = (search marked_more, search rules, (found_sign _ _ _ _ _ c.sign-mark.ensures c.in-At.is).2)
+loop-n-preserved c = (search marked_more, (found_sign _ _ _ _ _ c.sign-mark.ensures c.in-At.is).2)
 
 pub returns : goal.returns
-returns c = search run_full
+returns c = search (rules, run_full)

@@ -1,12 +1,8 @@
-use Prim.Native.Nat.{◌≤◌, ◌-◌}
 use mathlib.Core.Path.{◌≡◌}
-use lib.ListN.{length, drop}
+use lib.ListN.{drop}
 use Rattle.signs.specs.Signs.{skip}
 use Rattle.signs.proofs.skip.Given as goal
 
 -- What is passed is spaces and LFs.
 abbrev pub invariant-loop-i : goal.invariant-loop-i
-invariant-loop-i l = (skip (drop l.at l.text) ≡ skip (drop l.i l.text)) × (l.at ≤ l.i) × (l.i ≤ length l.text)
-
-abbrev pub decreases-loop-i : goal.decreases-loop-i
-decreases-loop-i l = length l.text - l.i
+invariant-loop-i l = skip (drop l.at l.text) ≡ skip (drop l.i l.text)

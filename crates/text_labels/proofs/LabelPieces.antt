@@ -1,17 +1,21 @@
 -- Labels as pieces of the text: where one ends, two compared, one looked for in a list.
 use Prim.Native.Nat.{ℕ, zero, suc, ◌+◌, ◌-◌, ◌<◌, ◌≤◌}
-use mathlib.Core.Path.{◌≡◌, refl, sym, ap, ap₂, ◌∙◌}
+use mathlib.Core.Path.{◌≡◌, refl, sym, ap, ap₂, subst, ◌∙◌}
 use mathlib.Core.Bool.{Bool, true, false, not, ◌&&◌, cond}
 use mathlib.Core.List.{List, [], ◌∷◌, ◌++◌, append_assoc}
 use native.Mathlib.Omega.{arith}
-use native.Mathlib.Numerals.{add-one}
+use native.Mathlib.Numerals.{add-one, one-add}
 use lib.Dec.{eqb}
 use lib.ListN.{length, get_or, take, drop, length-drop, length-map, drop_of_length-le, get_or-eq_default}
 use lib.Seq.{take-suc, drop-cons, get_or-drop, length-take-le}
-use borrow.Author.Tests.{eq-eqb, ne_eqb, not-true, not-false}
+use borrow.Author.Tests.{eq-eqb, ne_eqb, lt-ltb, le-ltb}
+use Rattle.std.specs.Prelude.{Option, position, unwrap_or}
+use Rattle.std.specs.List.{list_all, position_or_len}
+use Rattle.std.proofs.lemmas.List.Recursion.{is_position_or_len}
+use Rattle.std.proofs.lemmas.List.Sums.{prefix_len-le-length}
 use Rattle.lists.specs.Lists.{same?, up_to}
 use Rattle.lists.proofs.Lists.{append-nil}
-use Rattle.lists.proofs.Cases.{either_eq, either_bool}
+use Rattle.lists.proofs.Cases.{either_eq, either_bool, either_lt}
 use Rattle.labels.specs.Label.{capital, capitals, label_form?}
 use Rattle.labels.proofs.Capitals.{capital_sign}
 use Rattle.typed_formula.specs.Meaning.{label_text}
@@ -40,8 +44,10 @@ module _ (text : List ℕ) (at p : ℕ) (s : Scanned text at p) where
     inside = s.inside;
   }
 
-  pub scan_end : length text ≤ p → EndsLabel text at p
-  scan_end h = ended (ap (up_to 39) (drop_of_length-le text h))
+  pub scan_end : length text ≤ p → EndsLabel text at (length text)
+  scan_end h =
+      let e : p ≡ length text = omega (arith, s.inside) in
+      subst (EndsLabel text at) e (ended (ap (up_to 39) (drop_of_length-le text h)))
 
   module _ (h : p < length text) where
     pub scan-stop : get_or text p 0 ≡ 39 → EndsLabel text at p
@@ -123,7 +129,6 @@ module _ (text : List ℕ) (a b i : ℕ) where
   -- the first i capitals of the two labels are the same
   pub record SameFrom : Type 0 where
     pub same : same? (rest a) (rest b) ≡ same? (rest (a + i)) (rest (b + i))
-    pub few : i ≤ length text - a
 
   module _ (v : SameFrom) (x y : ℕ) (ex : x ≡ get_or (capitals text) (a + i) 39) (ey : y ≡ get_or (capitals text) (b + i) 39) where
     opened_same : same? (rest a) (rest b) ≡ same? (headed x (rest (suc (a + i)))) (headed y (rest (suc (b + i))))
@@ -148,77 +153,53 @@ same_first text a b =
     let f : b + 0 ≡ b = omega arith in
     record {
       same = ap₂ (λ (j : ℕ) (k : ℕ). same? (capitals (up_to 39 (drop j text))) (capitals (up_to 39 (drop k text)))) (sym e) (sym f);
-      few = omega arith;
     }
 
-pub same_next : (text : List ℕ) (a b i : ℕ) → SameFrom text a b i → (x y : ℕ) → x ≡ get_or (capitals text) (a + i) 39 → y ≡ get_or (capitals text) (b + i) 39 → x ≡ y → (x ≡ 39 → ⊥) → i < length text - a → SameFrom text a b (i + 1)
-same_next text a b i v x y ex ey e n h =
+pub same_next : (text : List ℕ) (a b i : ℕ) → SameFrom text a b i → (x y : ℕ) → x ≡ get_or (capitals text) (a + i) 39 → y ≡ get_or (capitals text) (b + i) 39 → x ≡ y → (x ≡ 39 → ⊥) → SameFrom text a b (i + 1)
+same_next text a b i v x y ex ey e n =
     let j : suc (a + i) ≡ a + (i + 1) = omega arith in
     let k : suc (b + i) ≡ b + (i + 1) = omega arith in
     record {
       same = same_step text a b i v x y ex ey e n ∙ ap₂ (λ (p : ℕ) (q : ℕ). same? (capitals (up_to 39 (drop p text))) (capitals (up_to 39 (drop q text)))) j k;
-      few = omega arith;
     }
 
 -- behind the last byte a label is at its end
-pub same_out : (text : List ℕ) (a b i : ℕ) → a ≤ length text → SameFrom text a b i → length text - a ≤ i → (y : ℕ) → y ≡ get_or (capitals text) (b + i) 39 → eqb y 39 ≡ same? (capitals (up_to 39 (drop a text))) (capitals (up_to 39 (drop b text)))
-same_out text a b i l v h y ey =
+pub same_out : (text : List ℕ) (a b i : ℕ) → a ≤ length text → SameFrom text a b i → length text - a ≤ i → i ≤ length text - a → (y : ℕ) → y ≡ get_or (capitals text) (b + (length text - a)) 39 → eqb y 39 ≡ same? (capitals (up_to 39 (drop a text))) (capitals (up_to 39 (drop b text)))
+same_out text a b i l v h k y ey =
     let x = byte_behind text (a + i) (omega arith) in
+    let q : length text - a ≡ i = omega arith in
+    let z : y ≡ get_or (capitals text) (b + i) 39 = ey ∙ ap (λ (j : ℕ). get_or (capitals text) (b + j) 39) q in
     either_eq y 39
-    (λ f. rw (eq-eqb y 39 f) (same_end text a b i v 39 y (sym x) ey (sym f) refl))
-    (λ n. rw (ne_eqb y 39 n) (same_differ text a b i v 39 y (sym x) ey (λ f. n (sym f))))
+    (λ f. rw (eq-eqb y 39 f) (same_end text a b i v 39 y (sym x) z (sym f) refl))
+    (λ n. rw (ne_eqb y 39 n) (same_differ text a b i v 39 y (sym x) z (λ f. n (sym f))))
 
 pub labels_same : (text : List ℕ) (m n a b : ℕ) (r : Bool) → (a ≡ length text - m) × (a ≤ length text) → (b ≡ length text - n) × (b ≤ length text) → r ≡ same? (capitals (up_to 39 (drop a text))) (capitals (up_to 39 (drop b text))) → r ≡ same? (label_text text m) (label_text text n)
 unfolding label_text
 labels_same text m n a b r f g e = e ∙ ap₂ (λ (j : ℕ) (k : ℕ). same? (capitals (up_to 39 (drop j text))) (capitals (up_to 39 (drop k text)))) f.0 g.0
 
 -- ── one label looked for ──
-module _ (text places : List ℕ) (n : ℕ) where
-  pub record Looked (i : ℕ) : Type 0 where
-    pub same : place_in (texts text places) (label_text text n) ≡ i + place_in (texts text (drop i places)) (label_text text n)
-    pub few : i ≤ length places
+module _ (text : List ℕ) (x : List ℕ) where
+  abbrev pub same_as : ℕ → Bool
+  same_as p = same? (label_text text p) x
 
-  pub looked_first : Looked 0
-  looked_first = record { same = omega arith; few = omega arith }
+  number_is : (places : List ℕ) → place_in (texts text places) x ≡ position_or_len same_as places
+  number_is = is_position_or_len (λ (ps : List ℕ). place_in (texts text ps) x) same_as refl (λ p ps. ap (cond (same_as p) 0) (sym (one-add (place_in (texts text ps) x))))
 
-  module _ (i : ℕ) (l : Looked i) where
-    pub looked_end : length places ≤ i → Finds text places n i
-    looked_end h =
-        let e : place_in (texts text (drop i places)) (label_text text n) ≡ 0 = ap (λ (k : List ℕ). place_in (texts text k) (label_text text n)) (drop_of_length-le places h) in
-        record { number = omega (arith, l.same); few = l.few }
-
-    module _ (h : i < length places) (r : Bool) (q : r ≡ same? (label_text text (get_or places i 0)) (label_text text n)) where
-      opened : place_in (texts text (drop i places)) (label_text text n) ≡ cond r 0 (suc (place_in (texts text (drop (i + 1) places)) (label_text text n)))
-      opened =
-          ap (λ (k : List ℕ). place_in (texts text k) (label_text text n)) (drop-cons places i 0 h)
-          ∙ ap₂ (λ (b : Bool) (j : ℕ). cond b 0 (suc (place_in (texts text (drop j places)) (label_text text n)))) (sym q) (sym (add-one i))
-
-      pub looked_found : r ≡ true → Finds text places n i
-      looked_found e =
-          let z : place_in (texts text (drop i places)) (label_text text n) ≡ 0 = opened ∙ simp e in
-          record { number = omega (arith, l.same); few = l.few }
-
-      pub looked_next : r ≡ false → Looked (i + 1)
-      looked_next e =
-          let z : place_in (texts text (drop i places)) (label_text text n) ≡ suc (place_in (texts text (drop (i + 1) places)) (label_text text n)) = opened ∙ simp e in
-          record { same = omega (arith, l.same); few = omega arith }
+pub found_number : (text places : List ℕ) (n : ℕ) (o : Option ℕ) (r : ℕ) → o ≡ position (same_as text (label_text text n)) places → r ≡ unwrap_or o (length places) → Finds text places n r
+found_number text places n o r e f =
+    let k : ℕ = position_or_len (same_as text (label_text text n)) places in
+    let g : k ≤ length places = prefix_len-le-length (λ y. not (same_as text (label_text text n) y)) places in
+    let q : unwrap_or (position (same_as text (label_text text n)) places) (length places) ≡ k = either_lt k (length places) (λ h. rw (lt-ltb k (length places) h)) (λ h. rw (le-ltb k (length places) h) (omega arith)) in
+    let z : r ≡ k = f ∙ (ap (λ (m : Option ℕ). unwrap_or m (length places)) e ∙ q) in
+    record { number = z ∙ sym (number_is text (label_text text n) places); few = omega arith }
 
 -- ── the form of a label ──
 pub label_form : (text : List ℕ) (n : ℕ) (x : Piece) (r : Bool) → Cut text n x → r ≡ label_form? (capitals (take (x.end - x.from) (drop x.from text))) → r ≡ label_form? (label_text text n)
 label_form text n x r c e = e ∙ ap label_form? c.bytes
 
-module _ (text places : List ℕ) (i : ℕ) (e : good_labels? (texts text (drop i places)) ≡ good_labels? (texts text places)) where
-  pub goods_end : length places ≤ i → true ≡ good_labels? (texts text places)
-  goods_end h = sym (ap (λ (k : List ℕ). good_labels? (texts text k)) (drop_of_length-le places h)) ∙ e
+abbrev pub label_good : List ℕ → ℕ → Bool
+label_good text p = label_form? (label_text text p)
 
-  module _ (h : i < length places) (r : Bool) (q : r ≡ label_form? (label_text text (get_or places i 0))) where
-    goods_open : good_labels? (texts text (drop i places)) ≡ r && good_labels? (texts text (drop (i + 1) places))
-    goods_open =
-        ap (λ (k : List ℕ). good_labels? (texts text k)) (drop-cons places i 0 h)
-        ∙ ap₂ (λ (b : Bool) (j : ℕ). b && good_labels? (texts text (drop j places))) (sym q) (sym (add-one i))
-
-    pub goods_stop : not r ≡ true → false ≡ good_labels? (texts text places)
-    goods_stop f = sym (goods_open ∙ simp (not-true r f)) ∙ e
-
-    pub goods_next : not r ≡ false → good_labels? (texts text (drop (i + 1) places)) ≡ good_labels? (texts text places)
-    goods_next f = sym (goods_open ∙ simp (not-false r f)) ∙ e
+pub all_good : (text places : List ℕ) → good_labels? (texts text places) ≡ list_all (label_good text) places
+all_good text [] = refl
+all_good text (p ∷ ps) = ap (λ (b : Bool). label_good text p && b) (all_good text ps)

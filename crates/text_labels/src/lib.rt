@@ -22,14 +22,12 @@ fn label_end(text: &[u8], at: usize) -> usize
     requires { at ≤ length text.now }
     ensures { EndsLabel text.now at result }
 {
-    let mut p = at;
-    while p < text.len() {
-        if text[p] == 39 {
+    for p in at..text.len() {
+        if text[p] == b'\'' {
             return p;
         }
-        p += 1;
     }
-    p
+    text.len()
 }
 
 // The place from which n bytes are left.
@@ -58,7 +56,7 @@ fn capital_or_quote(text: &[u8], p: usize) -> u8
     if p < text.len() {
         return labels::capital_byte(text[p]);
     }
-    39
+    b'\''
 }
 
 // Whether two labels have the same capitals: those from two places to the first quote. Most differ in their first byte.
@@ -66,18 +64,17 @@ fn same_from(text: &[u8], a: usize, b: usize) -> bool
     requires { (a ≤ length text.now) × (b ≤ length text.now) }
     ensures { result ≡ same? (capitals (up_to 39 (drop a text.now))) (capitals (up_to 39 (drop b text.now))) }
 {
-    let mut i: usize = 0;
-    while i < text.len() - a {
+    let left = text.len() - a;
+    for i in 0..left {
         let x = capital_or_quote(text, a + i);
         if x != capital_or_quote(text, b + i) {
             return false;
         }
-        if x == 39 {
+        if x == b'\'' {
             return true;
         }
-        i += 1;
     }
-    capital_or_quote(text, b + i) == 39
+    capital_or_quote(text, b + left) == b'\''
 }
 
 // The same of two labels by how many bytes stand behind their opening quotes.
@@ -93,14 +90,10 @@ fn same_label(text: &[u8], m: usize, n: usize) -> bool
 pub fn find(text: &[u8], places: &[usize], n: usize) -> usize
     ensures { Finds text.now places.now n result }
 {
-    let mut i: usize = 0;
-    while i < places.len() {
-        if same_label(text, places[i], n) {
-            return i;
-        }
-        i += 1;
-    }
-    i
+    places
+        .iter()
+        .position(|place| same_label(text, *place, n))
+        .unwrap_or(places.len())
 }
 
 // Whether a label has the length and the bytes of one.
@@ -117,12 +110,5 @@ fn label_ok(text: &[u8], n: usize) -> bool
 pub fn labels_ok(text: &[u8], places: &[usize]) -> bool
     ensures { result ≡ good_labels? (texts text.now places.now) }
 {
-    let mut i: usize = 0;
-    while i < places.len() {
-        if !label_ok(text, places[i]) {
-            return false;
-        }
-        i += 1;
-    }
-    true
+    places.iter().all(|place| label_ok(text, *place))
 }

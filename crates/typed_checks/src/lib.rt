@@ -55,10 +55,8 @@ fn all_bound(table: &[usize], n: usize) -> bool
     ensures { result ≡ fold_nodes bound_step true table.now 0 n }
 {
     let mut ok = true;
-    let mut i = 0;
-    while i < n {
+    for i in 0..n {
         ok = bound_step(ok, table[3 * i], table[3 * i + 1], table[3 * i + 2]);
-        i += 1;
     }
     ok
 }
@@ -69,10 +67,8 @@ fn few_nested(table: &[usize], n: usize) -> bool
     ensures { result ≡ fold_nodes few_step true table.now 0 n }
 {
     let mut ok = true;
-    let mut i = 0;
-    while i < n {
+    for i in 0..n {
         ok = few_step(ok, table[3 * i], table[3 * i + 1]);
-        i += 1;
     }
     ok
 }
@@ -98,10 +94,8 @@ fn label_places(text: &[u8], table: &[usize], n: usize, places: &mut [usize]) ->
     ensures { ListsPlaces text.now table.now n places.old places.new result }
 {
     let mut m: usize = 0;
-    let mut i = 0;
-    while i < n {
+    for i in 0..n {
         m = note(text, places, m, table[3 * i], table[3 * i + 2]);
-        i += 1;
     }
     m
 }

@@ -31,10 +31,8 @@ fn write_labels(text: &[u8], places: &[usize], out: &mut [u8], at: usize) -> usi
     ensures { Appends out.old at (labels_part (texts text.now places.now)) out.new result × (result ≤ at + 25 * length places.now) }
 {
     let mut p = at;
-    let mut i: usize = 0;
-    while i < places.len() {
-        p = write_label(text, places[i], out, p);
-        i += 1;
+    for place in places {
+        p = write_label(text, *place, out, p);
     }
     p
 }
@@ -86,10 +84,8 @@ fn write_nodes(
     ensures { Appends out.old at (nodes_bytes (texts text.now places.now) text.now table.now n) out.new result }
 {
     let mut p = at;
-    let mut i: usize = 0;
-    while i < n {
+    for i in 0..n {
         p = write_node(text, table, places, n, i, out, p);
-        i += 1;
     }
     p
 }

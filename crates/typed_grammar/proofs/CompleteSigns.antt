@@ -15,7 +15,6 @@ use Rattle.lists.proofs.Lists.{Free, has_seam, up_seam, past_seam}
 use Rattle.labels.specs.Label.{capitals}
 use Rattle.grammar.specs.Written.{EachByte}
 use Rattle.signs.specs.Signs.{read, blank?, skip, behind, sign, capital?, word_byte?, name_more, name, label}
-use Rattle.signs.proofs.Bytes.{word_capital, word_digit, word_else}
 use Rattle.typed_formula.specs.Meaning.{label_text}
 use Rattle.typed_grammar.specs.Words as Words
 use Rattle.typed_grammar.specs.Words.{Blank, space, line_feed, Capital, LetterOrDigit, capital, small, digit, Mark, mark_bytes, Sign, IsName, NoneFollows, Signs, end, blank, a_mark, a_name, a_label}
@@ -121,11 +120,16 @@ mark_found (a_mark m {s = s} r) =
     rw f.1 (mark_here (first m) (drop 1 (mark_bytes m)) s f.0 r)
 
 -- ── names ──
+last_true : (x : Bool) → x || true ≡ true
+last_true true = refl
+last_true false = refl
+
 -- a letter or a digit passes the test
 word_yes : (b : ℕ) → LetterOrDigit b → word_byte? b ≡ true
-word_yes b (capital c) = sym (word_capital b c.0 c.1)
-word_yes b (small l h) = sym (word_else b l) ∙ le-leb b 122 h
-word_yes b (digit d) = sym (word_digit b d.0 d.1)
+unfolding word_byte?
+word_yes b (capital c) = simp (le-leb 65 b c.0, le-leb b 90 c.1)
+word_yes b (small l h) = simp (le-leb 97 b l, le-leb b 122 h, last_true)
+word_yes b (digit d) = simp (le-leb 48 b d.0, le-leb b 57 d.1, last_true)
 
 -- what passes the test is a letter or a digit
 word_says : (b : ℕ) → word_byte? b ≡ true → LetterOrDigit b

@@ -12,7 +12,7 @@ pub returns-then-x-eq39 : goal.returns-then-x-eq39
 returns-then-x-eq39 c = search same_end
 
 pub loop-i-preserved : goal.loop-i-preserved
-loop-i-preserved c = same_next _ _ _ _ c.loop-i.invariant _ _ c.capital_or_quote-x.ensures c.capital_or_quote.ensures c.if-x-capital_or_quote.false c.if-x-eq39.false c.loop-i-test.true
+loop-i-preserved c = same_next _ _ _ _ c.loop-i.invariant _ _ c.capital_or_quote-x.ensures c.capital_or_quote.ensures c.if-x-capital_or_quote.false c.if-x-eq39.false
 
 pub returns : goal.returns
 returns c = search same_out

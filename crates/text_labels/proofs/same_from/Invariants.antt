@@ -1,11 +1,6 @@
 -- The capitals passed are the same in both, and none is a quote.
-use Prim.Native.Nat.{◌-◌}
-use lib.ListN.{length}
 use Rattle.text_labels.proofs.LabelPieces.{SameFrom}
 use Rattle.text_labels.proofs.same_from.Given as goal
 
 abbrev pub invariant-loop-i : goal.invariant-loop-i
 invariant-loop-i l = SameFrom l.text l.a l.b l.i
-
-abbrev pub decreases-loop-i : goal.decreases-loop-i
-decreases-loop-i l = length l.text - l.a - l.i

@@ -6,10 +6,10 @@ use Rattle.typed_checks.proofs.Folds.{fold_first, few_next, fold_end}
 use Rattle.typed_checks.proofs.few_nested.Goals as goal
 
 pub loop-i-init : goal.loop-i-init
-loop-i-init c = (fold_first few_step true _, search rules)
+loop-i-init c = fold_first few_step true _
 
 pub loop-i-preserved : goal.loop-i-preserved
-loop-i-preserved c = (search few_next, search rules)
+loop-i-preserved c = search few_next
 
 pub returns : goal.returns
-returns c = search fold_end
+returns c = search (rules, fold_end)

@@ -4,10 +4,10 @@ use Rattle.typed_checks.proofs.Folds.{listed_first, listed_next, listed_end}
 use Rattle.typed_checks.proofs.label_places.Goals as goal
 
 pub loop-i-init : goal.loop-i-init
-loop-i-init c = (search listed_first, search rules)
+loop-i-init c = search listed_first
 
 pub loop-i-preserved : goal.loop-i-preserved
-loop-i-preserved c = (search listed_next, search rules)
+loop-i-preserved c = search listed_next
 
 pub returns : goal.returns
-returns c = search listed_end
+returns c = search (rules, listed_end)

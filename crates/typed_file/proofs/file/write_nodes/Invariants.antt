@@ -1,10 +1,6 @@
-use Prim.Native.Nat.{◌-◌}
 use Rattle.typed_file.proofs.Writing.{Noded}
 use Rattle.typed_file.proofs.file.write_nodes.Given as goal
 
 -- The nodes passed stand behind the place.
 abbrev pub invariant-loop-i : goal.invariant-loop-i
 invariant-loop-i l = Noded l.text l.table l.places l.n l.initial.out l.at l.out l.p l.i
-
-abbrev pub decreases-loop-i : goal.decreases-loop-i
-decreases-loop-i l = l.n - l.i

@@ -54,20 +54,22 @@ module _ (Becomes : ℕ → RunSet → RunSet → Type 0) (old : List ℕ) where
     rest = λ i l. e.other i (omega arith) ∙ d.rest i (omega arith);
   }
 
-  pub rows_all : (new : List ℕ) (k n : ℕ) → RowByRow Becomes k old new → k ≡ n → RowByRow Becomes n old new
-  rows_all new k n d e = subst (λ (u : ℕ). RowByRow Becomes u old new) e d
+-- each row became what P says of it, and so what Q says
+pub rows_as : (P Q : ℕ → RunSet → RunSet → Type 0) (n : ℕ) (old new : List ℕ) → RowByRow P n old new
+    → ((k : ℕ) (a s : RunSet) → k < n → P k a s → Q k a s) → RowByRow Q n old new
+rows_as P Q n old new d f = record { long = d.long; rows = λ k l. f k (row old k) (row new k) l (d.rows k l); rest = d.rest }
 
--- ── one turn of each loop: s is what row a becomes ──
-module _ (s a t : RunSet) (w : List ℕ) (k : ℕ) (ea : a ≡ row w k) where
-  pub meet_row : (v : RunSet) → t ≡ v → ((j : ℕ) → mem s j ≡ (mem a j && mem t j)) → Narrowed (mem v) (row w k) s
-  meet_row v et h j l = h j ∙ ap₂ (λ (x y : RunSet). mem x j && mem y j) ea et
+-- ── what row a becomes: s ──
+module _ (s a t v : RunSet) (e : t ≡ v) where
+  pub meet_row : ((j : ℕ) → mem s j ≡ (mem a j && mem t j)) → Narrowed (mem v) a s
+  meet_row h j l = h j ∙ ap (λ (x : RunSet). mem a j && mem x j) e
 
-  pub minus_row : (v : RunSet) → t ≡ v → ((j : ℕ) → mem s j ≡ (mem a j && not (mem t j))) → Narrowed (λ j. not (mem v j)) (row w k) s
-  minus_row v et h j l = h j ∙ ap₂ (λ (x y : RunSet). mem x j && not (mem y j)) ea et
+  pub minus_row : ((j : ℕ) → mem s j ≡ (mem a j && not (mem t j))) → Narrowed (λ j. not (mem v j)) a s
+  minus_row h j l = h j ∙ ap (λ (x : RunSet). mem a j && not (mem x j)) e
 
-  pub upward_row : (v up : RunSet) → t ≡ v → ((j : ℕ) → j < 128 → mem up j ≡ any_up_to j (mem t)) → ((j : ℕ) → mem s j ≡ (mem a j && mem up j)) → Narrowed (λ j. any_up_to j (mem v)) (row w k) s
-  upward_row v up et hu h j l =
-      h j ∙ ap₂ (λ (x : RunSet) (y : Bool). mem x j && y) ea (hu j l ∙ ap (λ (x : RunSet). any_up_to j (mem x)) et)
+  pub upward_row : (up : RunSet) → ((j : ℕ) → j < 128 → mem up j ≡ any_up_to j (mem t)) → ((j : ℕ) → mem s j ≡ (mem a j && mem up j))
+      → Narrowed (λ j. any_up_to j (mem v)) a s
+  upward_row up g h j l = h j ∙ ap (λ (x : Bool). mem a j && x) (g j l ∙ ap (λ (x : RunSet). any_up_to j (mem x)) e)
 
 pub picked_row : (s v : RunSet) (b : Bool) (k : ℕ) (a : RunSet) → b ≡ mem v k → b ≡ true → s ≡ a → Narrowed (λ _. mem v k) a s
 picked_row s v b k a e t q j l = ap (λ (x : RunSet). mem x j) q ∙ (sym (and-true (mem a j)) ∙ ap (λ (x : Bool). mem a j && x) (sym t ∙ e))

@@ -8,6 +8,7 @@ ghost use Rattle.std.specs.Prelude.{◌≡◌, true, false, not, ℕ, ◌+◌, �
 ghost use Rattle.lists.specs.Lists.{any_below};
 ghost use Rattle.lists.specs.Limits.{max_runs};
 ghost use Rattle.sets.specs.Sets.{mem, any_up_to};
+ghost use Rattle.sets.specs.declared.RunSet.{RunSet};
 ghost use Rattle.set_table.specs.Rows.{row as row_of, Stored, RowByRow, Narrowed, StartOf, LeftOf};
 
 use sets::RunSet;
@@ -32,17 +33,24 @@ pub fn store_row(m: &mut [u64], k: usize, s: RunSet)
     m[2 * k + 1] = s.hi;
 }
 
+// Row k becomes what f makes of it, for each of the first rows.
+fn each_row<F: Fn(usize, RunSet) -> RunSet>(m: &mut [u64], runs: usize, f: F)
+    requires room { 2 * runs ≤ length m.old }
+    requires calls { (k : ℕ) → k < runs → (s : RunSet) → F.pre f k s }
+    ensures { RowByRow (λ k old new. F.post f k old new) runs m.old m.new }
+{
+    for k in 0..runs {
+        let s = f(k, row(m, k));
+        store_row(m, k, s);
+    }
+}
+
 // Row k keeps what row base + k of a table has.
 pub fn meet_rows(m: &mut [u64], runs: usize, table: &[u64], base: usize)
     requires { (2 * runs ≤ length m.old) × (base ≤ 896) × (2 * (base + runs) ≤ length table.now) }
     ensures { RowByRow (λ k. Narrowed (mem (row_of table.now (base + k)))) runs m.old m.new }
 {
-    let mut k: usize = 0;
-    while k < runs {
-        let s = sets::meet(row(m, k), row(table, base + k));
-        store_row(m, k, s);
-        k += 1;
-    }
+    each_row(m, runs, |k, s| sets::meet(s, row(table, base + k)));
 }
 
 // Each row keeps what a set has.
@@ -50,24 +58,15 @@ pub fn meet_each(m: &mut [u64], runs: usize, s: RunSet)
     requires { 2 * runs ≤ length m.old }
     ensures { RowByRow (λ k. Narrowed (mem s)) runs m.old m.new }
 {
-    let mut k: usize = 0;
-    while k < runs {
-        let t = sets::meet(row(m, k), s);
-        store_row(m, k, t);
-        k += 1;
-    }
+    each_row(m, runs, |_, t| sets::meet(t, s));
 }
 
-// Row k if a set has k, and nothing otherwise.
-fn picked(m: &[u64], k: usize, s: RunSet) -> RunSet
-    requires { (2 * k + 1 < length m.now) × (k < max_runs) }
-    ensures { Narrowed (λ _. mem s k) (row_of m.now k) result }
+// Row k, here t, if a set has k, and nothing otherwise.
+fn picked(t: RunSet, k: usize, s: RunSet) -> RunSet
+    requires { k < max_runs }
+    ensures { Narrowed (λ _. mem s k) t result }
 {
-    if sets::has(s, k) {
-        row(m, k)
-    } else {
-        sets::empty()
-    }
+    if sets::has(s, k) { t } else { sets::empty() }
 }
 
 // The rows of the runs of a set stay, and the others become empty.
@@ -75,12 +74,7 @@ pub fn pick_rows(m: &mut [u64], runs: usize, s: RunSet)
     requires { (2 * runs ≤ length m.old) × (runs ≤ max_runs) }
     ensures { RowByRow (λ k. Narrowed (λ _. mem s k)) runs m.old m.new }
 {
-    let mut k: usize = 0;
-    while k < runs {
-        let t = picked(m, k, s);
-        store_row(m, k, t);
-        k += 1;
-    }
+    each_row(m, runs, |k, t| picked(t, k, s));
 }
 
 // Row k loses what row k of another matrix has.
@@ -88,12 +82,7 @@ pub fn minus_rows(m: &mut [u64], runs: usize, other: &[u64])
     requires { (2 * runs ≤ length m.old) × (2 * runs ≤ length other.now) }
     ensures { RowByRow (λ k. Narrowed (λ j. not (mem (row_of other.now k) j))) runs m.old m.new }
 {
-    let mut k: usize = 0;
-    while k < runs {
-        let s = sets::minus(row(m, k), row(other, k));
-        store_row(m, k, s);
-        k += 1;
-    }
+    each_row(m, runs, |k, s| sets::minus(s, row(other, k)));
 }
 
 // Row k keeps the moments from the first on that row k of another matrix has.
@@ -101,12 +90,7 @@ pub fn meet_upward(m: &mut [u64], runs: usize, other: &[u64])
     requires { (2 * runs ≤ length m.old) × (2 * runs ≤ length other.now) }
     ensures { RowByRow (λ k. Narrowed (λ j. any_up_to j (mem (row_of other.now k)))) runs m.old m.new }
 {
-    let mut k: usize = 0;
-    while k < runs {
-        let s = sets::meet(row(m, k), sets::upward(row(other, k)));
-        store_row(m, k, s);
-        k += 1;
-    }
+    each_row(m, runs, |k, s| sets::meet(s, sets::upward(row(other, k))));
 }
 
 // Each row is a set from now on.
@@ -114,11 +98,7 @@ pub fn set_each(m: &mut [u64], runs: usize, s: RunSet)
     requires { 2 * runs ≤ length m.old }
     ensures { RowByRow (λ k old new. new ≡ s) runs m.old m.new }
 {
-    let mut k: usize = 0;
-    while k < runs {
-        store_row(m, k, s);
-        k += 1;
-    }
+    each_row(m, runs, |_, _| s);
 }
 
 // Row k is row k of another matrix from now on.
@@ -126,12 +106,7 @@ pub fn copy_rows(m: &mut [u64], runs: usize, other: &[u64])
     requires { (2 * runs ≤ length m.old) × (2 * runs ≤ length other.now) }
     ensures { RowByRow (λ k old new. new ≡ row_of other.now k) runs m.old m.new }
 {
-    let mut k: usize = 0;
-    while k < runs {
-        let s = row(other, k);
-        store_row(m, k, s);
-        k += 1;
-    }
+    each_row(m, runs, |k, _| row(other, k));
 }
 
 // The moments of dom from r on that are not in got; none if r is not in keep.
@@ -152,12 +127,7 @@ pub fn start_rows(m: &mut [u64], runs: usize, dom: RunSet, keep: RunSet)
     ensures { RowByRow (λ k old. StartOf dom keep k) runs m.old m.new }
 {
     let none = sets::empty();
-    let mut k: usize = 0;
-    while k < runs {
-        let s = left_of(dom, none, keep, k);
-        store_row(m, k, s);
-        k += 1;
-    }
+    each_row(m, runs, |k, _| left_of(dom, none, keep, k));
 }
 
 // Whether no row has a moment. Only a yes is promised: it saves work.
@@ -165,14 +135,7 @@ pub fn no_rows(m: &[u64], runs: usize) -> bool
     requires { 2 * runs ≤ length m.now }
     ensures { result ≡ true → (k : ℕ) → k < runs → (j : ℕ) → mem (row_of m.now k) j ≡ false }
 {
-    let mut k: usize = 0;
-    while k < runs {
-        if !sets::none(row(m, k)) {
-            return false;
-        }
-        k += 1;
-    }
-    true
+    (0..runs).all(|k| sets::none(row(m, k)))
 }
 
 // What the rows have together.
@@ -181,10 +144,8 @@ pub fn all_rows(m: &[u64], runs: usize) -> RunSet
     ensures { (j : ℕ) → mem result j ≡ any_below runs (λ k. mem (row_of m.now k) j) }
 {
     let mut s = sets::empty();
-    let mut k: usize = 0;
-    while k < runs {
+    for k in 0..runs {
         s = sets::join(s, row(m, k));
-        k += 1;
     }
     s
 }

@@ -1,14 +1,7 @@
--- The rows passed have lost the other matrix's, and the others are as they were.
-use native.Mathlib.Omega.{arith}
-use Rattle.set_table.proofs.Turns.{rows_none, rows_more, rows_all, minus_row}
+-- Each row has lost the other matrix's.
+use borrow.Author.Rules.{rules}
+use Rattle.set_table.proofs.Turns.{rows_as, minus_row}
 use Rattle.set_table.proofs.minus_rows.Goals as goal
 
-pub loop-k-init : goal.loop-k-init
-loop-k-init c = (omega arith, rows_none _ _)
-
-pub loop-k-preserved : goal.loop-k-preserved
-loop-k-preserved c = let at = c.loop-k in
-    (omega arith, rows_more _ _ at.m _ at.k _ at.invariant.1 c.store_row.ensures (minus_row _ _ _ at.m at.k c.row.ensures _ c.row-in-loop-k.ensures c.minus-s.ensures))
-
 pub returns : goal.returns
-returns c = rows_all _ _ _ _ _ c.loop-k.invariant.1 (omega arith)
+returns c = rows_as _ _ _ _ _ c.each_row.ensures (λ k a s l h. search (rules, minus_row))

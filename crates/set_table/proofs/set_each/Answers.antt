@@ -1,15 +1,7 @@
--- The rows passed are the set, and the others are as they were.
-use mathlib.Core.Path.{refl}
-use native.Mathlib.Omega.{arith}
-use Rattle.set_table.proofs.Turns.{rows_none, rows_more, rows_all}
+-- Each row is the set.
+use borrow.Author.Rules.{rules}
+use Rattle.set_table.proofs.Turns.{rows_as}
 use Rattle.set_table.proofs.set_each.Goals as goal
 
-pub loop-k-init : goal.loop-k-init
-loop-k-init c = (omega arith, rows_none _ _)
-
-pub loop-k-preserved : goal.loop-k-preserved
-loop-k-preserved c = let at = c.loop-k in
-    (omega arith, rows_more _ _ at.m _ at.k _ at.invariant.1 c.store_row.ensures (refl))
-
 pub returns : goal.returns
-returns c = rows_all _ _ _ _ _ c.loop-k.invariant.1 (omega arith)
+returns c = rows_as _ _ _ _ _ c.each_row.ensures (λ k a s l h. search rules)

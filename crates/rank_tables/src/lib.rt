@@ -45,11 +45,8 @@ fn gain_values(values: &[usize], limit: usize, table: &mut [u64])
     requires { FitsBelow values.now limit × (2 * limit + 1 < length table.old) }
     ensures { Gained values.now table.old table.new max_runs }
 {
-    let mut i: usize = 0;
-    while i < MAX_RUNS {
-        let v = values[i];
-        gain(table, v, i);
-        i += 1;
+    for (i, v) in values[..MAX_RUNS].iter().enumerate() {
+        gain(table, *v, i);
     }
 }
 
@@ -59,12 +56,10 @@ fn spread(table: &mut [u64], rows: usize)
     ensures { Spread table.old table.new rows }
 {
     let mut seen = sets::empty();
-    let mut r: usize = 0;
-    while r < rows {
+    for r in 0..rows {
         let here = row_at(table, r);
         store_row(table, r, seen);
         seen = sets::join(seen, here);
-        r += 1;
     }
 }
 

@@ -1,18 +1,17 @@
 -- The form of a label: what each test of it says, and that bytes of this form are what a run has.
-use Prim.Native.Nat.{ℕ, suc, ◌+◌, ◌<◌, ◌≤◌}
-use mathlib.Core.Path.{◌≡◌, refl, ap, sym, ap₂, ◌∙◌}
-use mathlib.Core.Bool.{Bool, true, false, not, ◌&&◌}
-use mathlib.Core.List.{List, ◌∷◌}
+use Prim.Native.Nat.{ℕ, zero, suc, ◌<◌, ◌≤◌}
+use mathlib.Core.Path.{◌≡◌, refl, ap₂}
+use mathlib.Core.Bool.{Bool, true, false, ◌&&◌}
+use mathlib.Core.List.{List, [], ◌∷◌}
 use native.Mathlib.Omega.{arith}
-use native.Mathlib.Numerals.{add-one}
 use lib.Dec.{leb}
-use lib.ListN.{length, get_or, drop, drop_of_length-le, length-map}
-use lib.Seq.{drop-cons}
-use borrow.Author.Tests.{le-leb, lt-leb, not-true, not-false}
+use lib.ListN.{length, length-map}
+use borrow.Author.Tests.{le-leb, lt-leb}
+use Rattle.std.specs.Bool.{MatchBool}
+use Rattle.std.specs.List.{AllWithin, HoldsAt}
 use Rattle.lists.specs.Lists.{all?}
 use Rattle.lists.proofs.Cases.{and_left, and_right}
 use Rattle.labels.specs.Label.{letter?, capital, capitals, max_label_bytes, label_length?, label_form?}
-use Rattle.labels.proofs.Capitals.{capitals_at_lem}
 
 -- ── the length ──
 module _ (s : List ℕ) where
@@ -24,28 +23,31 @@ module _ (s : List ℕ) where
   unfolding label_form?
   form_long h = simp (length-map s capital, le-leb 1 (length s) (omega arith), lt-leb (length s) max_label_bytes h)
 
-  pub form_first : 1 ≤ length s → length s ≤ max_label_bytes → all? letter? (drop 0 (capitals s)) ≡ label_form? (capitals s)
+  pub form_bytes : 1 ≤ length s → length s ≤ max_label_bytes → all? letter? (capitals s) ≡ label_form? (capitals s)
   unfolding label_form?
-  form_first low high = simp (length-map s capital, le-leb 1 (length s) low, le-leb (length s) max_label_bytes high)
+  form_bytes low high = simp (length-map s capital, le-leb 1 (length s) low, le-leb (length s) max_label_bytes high)
 
--- ── the bytes: those from i on decide ──
-module _ (s : List ℕ) (i c : ℕ) (v l : Bool) where
-  form_byte : i < length s → c ≡ capital (get_or s i 0) → l ≡ letter? c → (drop i (capitals s) ≡ c ∷ drop (i + 1) (capitals s)) × (letter? c ≡ l)
-  form_byte h e f =
-      let k : i < length (capitals s) = rw (length-map s capital) h in
-      let g : get_or (capitals s) i 0 ≡ c = capitals_at_lem s i ∙ sym e in
-      (drop-cons (capitals s) i 0 k ∙ (ap (λ (b : ℕ). b ∷ drop (suc i) (capitals s)) g ∙ rw (add-one i) refl), sym f)
+-- ── the bytes ──
+abbrev pub Lettered : ℕ → Type 0
+Lettered b = letter? (capital b) ≡ true
 
-  pub form_next : all? letter? (drop i (capitals s)) ≡ v → i < length s → c ≡ capital (get_or s i 0) → l ≡ letter? c → not l ≡ false → all? letter? (drop (i + 1) (capitals s)) ≡ v
-  form_next e h f g t = let p = form_byte h f g in simp (p.0, p.1 ∙ not-false l t) at e
+abbrev pub Unlettered : ℕ → Type 0
+Unlettered b = letter? (capital b) ≡ false
 
-  pub form_stop : all? letter? (drop i (capitals s)) ≡ v → i < length s → c ≡ capital (get_or s i 0) → l ≡ letter? c → not l ≡ true → false ≡ v
-  form_stop e h f g t = let p = form_byte h f g in simp (p.0, p.1 ∙ not-true l t) at e
-
-pub form_end : (s : List ℕ) (i : ℕ) (v : Bool) → all? letter? (drop i (capitals s)) ≡ v → length s ≤ i → true ≡ v
-form_end s i v e h = let k : length (capitals s) ≤ i = rw (length-map s capital) h in rw (drop_of_length-le (capitals s) k) at e
-
-pub ruleset forms = (form_empty, form_long, form_first, form_next, form_stop, form_end)
+-- one byte after the other decides
+pub letters_all : (s : List ℕ) (r : Bool) → MatchBool r (AllWithin Lettered s 0 (length s)) ((k : ℕ) × (k < length s) × HoldsAt Unlettered s k)
+    → r ≡ all? letter? (capitals s)
+letters_all [] true m = refl
+letters_all [] false (k, l, w) = absurd (omega arith)
+letters_all (b ∷ s) true m =
+    let e : letter? (capital b) ≡ true = m 0 0 (omega arith) (omega arith) in
+    simp e (letters_all s true (λ k d l g. m (suc k) d (omega arith) (omega arith)))
+letters_all (b ∷ s) false (zero, l, w) = let e : letter? (capital b) ≡ false = w 0 in simp e
+letters_all (b ∷ s) false (suc k, l, w) = go (letter? (capital b)) (letters_all s false (k, omega arith, w))
+  where
+    go : (t : Bool) → false ≡ all? letter? (capitals s) → false ≡ (t && all? letter? (capitals s))
+    go true e = e
+    go false e = refl
 
 -- ── what a run has ──
 -- the bytes of a label, or no bytes at all where it has none

@@ -3,8 +3,7 @@ use Prim.Native.Nat.{ℕ, ◌<◌, ◌≤◌}
 use mathlib.Core.Path.{◌≡◌, sym}
 use mathlib.Core.Bool.{true, false}
 use native.Mathlib.Omega.{arith}
-use lib.Dec.{eqb}
-use borrow.Author.Tests.{ne_eqb, le-leb, lt-leb}
+use borrow.Author.Tests.{eq-eqb, ne_eqb, le-leb, lt-leb}
 use Rattle.lists.proofs.Cases.{either_lt, no_both}
 use Rattle.labels.specs.Label.{digit?, letter?}
 
@@ -25,11 +24,15 @@ module _ (b : ℕ) where
   unfolding letter? digit?
   letter-4 h k = simp (le-leb 65 b h, le-leb b 90 k)
 
-  pub letter-5 : 90 < b → eqb b 95 ≡ letter? b
+  pub letter-5 : b ≡ 95 → true ≡ letter? b
   unfolding letter? digit?
-  letter-5 h = simp (le-leb 65 b (omega arith), lt-leb b 90 h, le-leb 48 b (omega arith), lt-leb b 57 (omega arith))
+  letter-5 e = simp (le-leb 65 b (omega arith), lt-leb b 90 (omega arith), le-leb 48 b (omega arith), lt-leb b 57 (omega arith), eq-eqb b 95 e)
 
-pub ruleset letters = (letter-1, letter-2, letter-3, letter-4, letter-5)
+  pub letter-6 : 90 < b → (b ≡ 95 → ⊥) → false ≡ letter? b
+  unfolding letter? digit?
+  letter-6 h n = simp (le-leb 65 b (omega arith), lt-leb b 90 (omega arith), le-leb 48 b (omega arith), lt-leb b 57 (omega arith), ne_eqb b 95 n)
+
+pub ruleset letters = (letter-1, letter-2, letter-3, letter-4, letter-5, letter-6)
 
 pub letter_range : (b : ℕ) → letter? b ≡ true → (48 ≤ b) × (b ≤ 95)
 unfolding letter? digit?

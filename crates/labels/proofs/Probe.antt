@@ -74,9 +74,12 @@ module _ (t : LabelTable) (x y : Label) (v : Slot) (p left : ℕ) (b : Bool) whe
       → Seen (get_or t.places p (label_no 0)) ≡ v
   turn_seen e h m g s k = sym (e ∙ probe_seen _ _ x p left h m (ap (λ (z : Label). equal_label? z x) (sym g) ∙ same_yes y x b s k))
 
-  pub turn_next : v ≡ probe (place_at t.places) (label_at t.labels) x p left → 0 < left → (place_at t.places p ≡ 0 → ⊥) → y ≡ label_at t.labels (place_at t.places p) → Tells b (y ≡ x) → b ≡ false
-      → v ≡ probe (place_at t.places) (label_at t.labels) x ((p + 1) % 128) (left - 1)
-  turn_next e h m g s k = e ∙ probe_next _ _ x p left h m (ap (λ (z : Label). equal_label? z x) (sym g) ∙ same_no y x b s k)
+  pub turn_next : (q : ℕ) → v ≡ probe (place_at t.places) (label_at t.labels) x p left → 0 < left → (place_at t.places p ≡ 0 → ⊥)
+      → y ≡ label_at t.labels (place_at t.places p) → Tells b (y ≡ x) → b ≡ false → (p + 1) % 128 ≡ q
+      → v ≡ probe (place_at t.places) (label_at t.labels) x q (left - 1)
+  turn_next q e h m g s k w =
+      e ∙ (probe_next _ _ x p left h m (ap (λ (z : Label). equal_label? z x) (sym g) ∙ same_no y x b s k)
+      ∙ ap (λ (z : ℕ). probe (place_at t.places) (label_at t.labels) x z (left - 1)) w)
 
 -- ── the search of any table, turn by turn ──
 module _ (t : LabelTable) (x : Label) (p left : ℕ) (e : lookup t x ≡ probe (place_at t.places) (label_at t.labels) x p left) where

@@ -8,14 +8,20 @@ use native.Mathlib.Numerals.{add-one}
 use lib.Dec.{eqb, leb, ltb}
 use lib.ListN.{length, get_or, set, take, drop, replicate, drop_of_length-le, length-take, length-map}
 use lib.Seq.{drop-cons, length-take-le, take-append_seam, take-suc, take_all}
-use borrow.Author.Tests.{eq-eqb, ne_eqb, le-leb, lt-leb, leb-true, lt-ltb, le-ltb}
+use lib.Pointwise.{pointwise}
+use borrow.Author.Tests.{eq-eqb, ne_eqb, eqb-true, le-leb, lt-leb, leb-true, lt-ltb, le-ltb}
+use Rattle.std.specs.Bool.{Decides}
+use Rattle.std.proofs.lemmas.Bool.Decides.{Decides-eqb}
+use Rattle.std.proofs.lemmas.Slice.Eq.{slice_eq-Decides}
 use Rattle.lists.specs.Lists.{pad, all?, same?}
 use Rattle.lists.specs.Tells.{Tells}
 use Rattle.lists.proofs.Cases.{either_eq, either_lt, either_bool, no_both, and_left, and_right}
-use Rattle.lists.proofs.Tells.{tell_no}
 use Rattle.lists.proofs.Lists.{same_refl, same_eq, set-pad}
+use Rattle.lists.proofs.Tells.{tells}
 use Rattle.labels.specs.declared.Label.{Label}
-use Rattle.labels.specs.Label.{letter?, capital, capitals, label_of, text, no_label, equal_label?, sound_from, byte_sound, sound?}
+use Rattle.labels.specs.declared.LabelNo.{LabelNo}
+use Rattle.labels.specs.declared.LabelTable.{LabelTable}
+use Rattle.labels.specs.Label.{letter?, capital, capitals, label_no, label_of, text, no_label, equal_label?, sound_from, byte_sound, sound?}
 use Rattle.labels.proofs.Capitals.{capitals_at_lem}
 use Rattle.labels.proofs.Form.{label?}
 
@@ -33,13 +39,46 @@ pub label_refl : (x : Label) → equal_label? x x ≡ true
 unfolding equal_label?
 label_refl x = simp (eq-eqb x.length x.length refl) (same_refl x.bytes)
 
--- two labels compared byte by byte
-module _ (x y : Label) where
-  pub length_differs : (x.length ≡ y.length → ⊥) → Tells false (x ≡ y)
-  length_differs h = tell_no (λ e. h (ap (λ (z : Label). z.length) e))
+-- what `==` computes of two labels, and of two tables
+abbrev pub label_same : Label → Label → Bool
+label_same x y = pointwise eqb x.bytes y.bytes && eqb x.length y.length
 
-  pub bytes_decide : (b : Bool) → x.length ≡ y.length → Tells b (x.bytes ≡ y.bytes) → Tells b (x ≡ y)
-  bytes_decide b p t = record { yes = λ e. let q = t.yes e in λ i. record { bytes = q i; length = p i }; no = λ e q. t.no e (ap (λ (z : Label). z.bytes) q) }
+label_decides : (x y : Label) → Decides (label_same x y) (x ≡ y)
+label_decides x y =
+    let bytes = slice_eq-Decides Decides-eqb x.bytes y.bytes (pointwise eqb x.bytes y.bytes) refl in (
+      λ e.
+          let p = bytes.0 (and_left (pointwise eqb x.bytes y.bytes) (eqb x.length y.length) e) in
+          let q = eqb-true _ _ (and_right (pointwise eqb x.bytes y.bytes) (eqb x.length y.length) e) in
+          λ i. record { bytes = p i; length = q i },
+      λ e. ap₂ ◌&&◌ (bytes.1 (ap (λ (z : Label). z.bytes) e)) (eq-eqb _ _ (ap (λ (z : Label). z.length) e)),
+    )
+
+abbrev pub place_same : LabelNo → LabelNo → Bool
+place_same p q = eqb p.0 q.0
+
+place_decides : (p q : LabelNo) → Decides (place_same p q) (p ≡ q)
+place_decides p q = (λ e. ap label_no (eqb-true _ _ e), λ e. eq-eqb _ _ (ap (λ (z : LabelNo). z.0) e))
+
+pub table_tells : (t u : LabelTable) (b : Bool) → b ≡ (pointwise label_same t.labels u.labels && (pointwise place_same t.places u.places && eqb t.count u.count))
+    → Tells b (t ≡ u)
+table_tells t u b e =
+    let same_labels = pointwise label_same t.labels u.labels in
+    let same_places = pointwise place_same t.places u.places in
+    let same_count = eqb t.count u.count in
+    let labels = slice_eq-Decides label_decides t.labels u.labels same_labels refl in
+    let places = slice_eq-Decides place_decides t.places u.places same_places refl in
+    tells (
+      λ y.
+          let all = sym e ∙ y in
+          let rest = and_right same_labels (same_places && same_count) all in
+          let p = labels.0 (and_left same_labels (same_places && same_count) all) in
+          let q = places.0 (and_left same_places same_count rest) in
+          let r = eqb-true _ _ (and_right same_places same_count rest) in
+          λ i. record { labels = p i; places = q i; count = r i },
+      λ f. e
+          ∙ ap₂ ◌&&◌ (labels.1 (ap (λ (z : LabelTable). z.labels) f))
+          (ap₂ ◌&&◌ (places.1 (ap (λ (z : LabelTable). z.places) f)) (eq-eqb _ _ (ap (λ (z : LabelTable). z.count) f))),
+    )
 
 -- what a comparison says of the test in the definitions
 pub same_yes : (x y : Label) (b : Bool) → Tells b (x ≡ y) → b ≡ true → equal_label? x y ≡ true

@@ -3,7 +3,7 @@
 use Prim.Native.Nat.{ℕ, zero, suc, ◌+◌, ◌-◌, ◌%◌, ◌<◌, ◌≤◌}
 use mathlib.Core.Path.{◌≡◌, refl, ap, sym, ◌∙◌, subst}
 use mathlib.Core.List.{List, [], ◌∷◌, ◌++◌}
-use mathlib.Core.Bool.{Bool, true, false}
+use mathlib.Core.Bool.{true}
 use native.Mathlib.Omega.{arith}
 use lib.Dec.{eqb, leb}
 use borrow.Author.Tests.{eq-eqb, ne_eqb, le-leb, lt-leb, leb-false, lt-ltb, le-ltb}
@@ -11,8 +11,6 @@ use lib.ListN.{length, get_or, set, replicate, length-set, length-append, length
 use lib.Seq.{get_or-set_same, get_or-set_other, get_or_at}
 use Rattle.lists.specs.Lists.{pad}
 use Rattle.lists.proofs.Cases.{either_eq, either_lt, either_bool}
-use Rattle.lists.specs.Tells.{Tells}
-use Rattle.lists.proofs.Tells.{tell_no, tell_by}
 use Rattle.lists.proofs.Lists.{set-pad}
 use Rattle.labels.specs.declared.Label.{Label}
 use Rattle.labels.specs.declared.LabelNo.{LabelNo}
@@ -243,14 +241,3 @@ adds t x p q e = record { answer = e; meaning = λ ls h f g. e ∙ ((λ i. put_l
 pub none_distinct : Distinct []
 unfolding Distinct
 none_distinct i j m k n l e = absurd (m (omega arith))
-
--- ── two tables compared ──
-module _ (a b : LabelTable) where
-  pub count_differs : (a.count ≡ b.count → ⊥) → Tells false (a ≡ b)
-  count_differs h = tell_no (λ e. h (ap (λ (x : LabelTable). x.count) e))
-
-  pub labels_differ : (a.labels ≡ b.labels → ⊥) → Tells false (a ≡ b)
-  labels_differ h = tell_no (λ e. h (ap (λ (x : LabelTable). x.labels) e))
-
-  pub places_decide : (t : Bool) → a.count ≡ b.count → a.labels ≡ b.labels → Tells t (a.places ≡ b.places) → Tells t (a ≡ b)
-  places_decide t p r = tell_by (λ q. λ i. record { labels = r i; places = q i; count = p i }) (λ e. ap (λ (x : LabelTable). x.places) e)

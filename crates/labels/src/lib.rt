@@ -25,18 +25,18 @@ pub const MAX_LABEL_BYTES: usize = 24;
 pub const LABEL_PLACES: usize = 128;
 
 // A label's number, from 1 in the order of first appearance; 0 for none.
-#[derive(Clone, Copy)]
+#[derive(Clone, Copy, PartialEq, Eq)]
 pub struct LabelNo(pub u8);
 
 // The first `length` bytes are the label's, the others 0. Length 0: no label.
-#[derive(Clone, Copy)]
+#[derive(Clone, Copy, PartialEq, Eq)]
 pub struct Label {
     pub bytes: [u8; MAX_LABEL_BYTES],
     pub length: u8,
 }
 
 // The first `count` labels are the table's. A place holds the number of the label that stands there, 0 where it is empty.
-#[derive(Clone, Copy)]
+#[derive(Clone, Copy, PartialEq, Eq)]
 pub struct LabelTable {
     pub labels: [Label; MAX_LOG_LABELS],
     pub places: [LabelNo; LABEL_PLACES],
@@ -70,10 +70,8 @@ pub fn fnv1a(bytes: &[u8]) -> u32
     ensures { result ≡ fnv_of bytes.now }
 {
     let mut h: u32 = 2166136261;
-    let mut i: usize = 0;
-    while i < bytes.len() {
-        h = fnv_step(h, bytes[i]);
-        i += 1;
+    for b in bytes {
+        h = fnv_step(h, *b);
     }
     h
 }
@@ -82,74 +80,34 @@ pub fn fnv1a(bytes: &[u8]) -> u32
 pub fn capital_byte(b: u8) -> u8
     ensures { result ≡ capital b }
 {
-    if b < 97 {
-        return b;
+    match b {
+        b'a'..=b'z' => b - 32,
+        _ => b,
     }
-    if b > 122 {
-        return b;
-    }
-    b - 32
 }
 
 // Whether a label in capitals may have the byte: A to Z, 0 to 9, underscore.
 pub fn label_byte(b: u8) -> bool
     ensures { result ≡ letter? b }
 {
-    if b < 48 {
-        return false;
-    }
-    if b <= 57 {
-        return true;
-    }
-    if b < 65 {
-        return false;
-    }
-    if b <= 90 {
-        return true;
-    }
-    b == 95
+    matches!(b, b'A'..=b'Z' | b'0'..=b'9' | b'_')
 }
 
 // Whether a byte string is a label as it is written: 1 to 24 bytes, each of which counts as one that a label may have.
 pub fn is_label(s: &[u8]) -> bool
     ensures { result ≡ label_form? (capitals s.now) }
 {
-    if s.len() < 1 {
-        return false;
-    }
-    if s.len() > MAX_LABEL_BYTES {
-        return false;
-    }
-    let mut i: usize = 0;
-    while i < s.len() {
-        let c = capital_byte(s[i]);
-        if !label_byte(c) {
-            return false;
-        }
-        i += 1;
-    }
-    true
+    (1..=MAX_LABEL_BYTES).contains(&s.len()) && s.iter().all(|b| label_byte(capital_byte(*b)))
 }
 
 // Whether two labels as they are written have the same capitals.
 pub fn same_label(a: &[u8], b: &[u8]) -> bool
     ensures { result ≡ same? (capitals a.now) (capitals b.now) }
 {
-    if a.len() != b.len() {
-        return false;
-    }
-    let mut i = 0;
-    while i < a.len() {
-        let p = a[i];
-        let q = b[i];
-        let x = capital_byte(p);
-        let y = capital_byte(q);
-        if x != y {
-            return false;
-        }
-        i += 1;
-    }
-    true
+    a.len() == b.len()
+        && a.iter()
+            .zip(b)
+            .all(|(x, y)| capital_byte(*x) == capital_byte(*y))
 }
 
 // The label that stands for a missing one.
@@ -168,17 +126,12 @@ pub fn label_from(bytes: &[u8]) -> Label
     ensures { result ≡ label_of (capitals bytes.now) }
 {
     let mut text = [0u8; MAX_LABEL_BYTES];
-    let n = bytes.len();
-    let mut i: usize = 0;
-    while i < n {
-        let b = bytes[i];
-        let c = capital_byte(b);
-        text[i] = c;
-        i += 1;
+    for (i, b) in bytes.iter().enumerate() {
+        text[i] = capital_byte(*b);
     }
     Label {
         bytes: text,
-        length: n as u8,
+        length: bytes.len() as u8,
     }
 }
 
@@ -200,13 +153,10 @@ pub fn is_sound(x: Label) -> bool
     if MAX_LABEL_BYTES < n {
         return false;
     }
-    let mut i: usize = 0;
-    while i < MAX_LABEL_BYTES {
-        let b = x.bytes[i];
-        if !byte_sound(i < n, b) {
+    for (i, b) in x.bytes.iter().enumerate() {
+        if !byte_sound(i < n, *b) {
             return false;
         }
-        i += 1;
     }
     true
 }
@@ -215,17 +165,7 @@ pub fn is_sound(x: Label) -> bool
 pub fn equal_labels(a: Label, b: Label) -> bool
     ensures { Tells result (a ≡ b) }
 {
-    if a.length != b.length {
-        return false;
-    }
-    let mut i: usize = 0;
-    while i < MAX_LABEL_BYTES {
-        if a.bytes[i] != b.bytes[i] {
-            return false;
-        }
-        i += 1;
-    }
-    true
+    a == b
 }
 
 // The table of no labels.
@@ -255,9 +195,9 @@ pub fn find_label(t: LabelTable, x: Label) -> Slot
     requires { (x.length ≤ max_label_bytes) × Readable t }
     ensures { FindsLabel t x result }
 {
-    let mut p = first_place(x);
-    let mut left: usize = LABEL_PLACES;
-    while 0 < left {
+    let first = first_place(x);
+    for k in 0..LABEL_PLACES {
+        let p = (first + k) % LABEL_PLACES;
         let n = t.places[p];
         if n.0 == 0 {
             return Slot::Free(p);
@@ -267,8 +207,6 @@ pub fn find_label(t: LabelTable, x: Label) -> Slot
         if equal_labels(y, x) {
             return Slot::Seen(n);
         }
-        p = (p + 1) % LABEL_PLACES;
-        left -= 1;
     }
     Slot::Full
 }
@@ -287,47 +225,9 @@ pub fn add_label(t: LabelTable, x: Label, p: usize) -> LabelTable
     q
 }
 
-fn equal_label_lists(a: [Label; MAX_LOG_LABELS], b: [Label; MAX_LOG_LABELS]) -> bool
-    ensures { Tells result (a ≡ b) }
-{
-    let mut i: usize = 0;
-    while i < MAX_LOG_LABELS {
-        let x = a[i];
-        let y = b[i];
-        if !equal_labels(x, y) {
-            return false;
-        }
-        i += 1;
-    }
-    true
-}
-
-fn same_places(a: [LabelNo; LABEL_PLACES], b: [LabelNo; LABEL_PLACES]) -> bool
-    ensures { Tells result (a ≡ b) }
-{
-    let mut i: usize = 0;
-    while i < LABEL_PLACES {
-        if a[i].0 != b[i].0 {
-            return false;
-        }
-        i += 1;
-    }
-    true
-}
-
 // Whether two tables are the same, unused places too.
-pub fn same_table(a: LabelTable, b: LabelTable) -> bool
-    ensures { Tells result (a ≡ b) }
+pub fn same_table(t: LabelTable, u: LabelTable) -> bool
+    ensures { Tells result (t ≡ u) }
 {
-    if a.count != b.count {
-        return false;
-    }
-    let x = a.labels;
-    let y = b.labels;
-    if !equal_label_lists(x, y) {
-        return false;
-    }
-    let v = a.places;
-    let w = b.places;
-    same_places(v, w)
+    t == u
 }

@@ -1,6 +1,7 @@
 -- Tests that decide: made, and carried from one claim to another.
-use mathlib.Core.Path.{◌≡◌, refl, sym}
+use mathlib.Core.Path.{◌≡◌, refl, sym, ◌∙◌}
 use mathlib.Core.Bool.{Bool, true, false}
+use Rattle.std.specs.Bool.{Decides}
 use Rattle.lists.specs.Tells.{Tells}
 use Rattle.lists.proofs.Cases.{no_both}
 
@@ -19,3 +20,7 @@ agree true true p q = refl
 agree true false p q = absurd (q.no refl (p.yes refl))
 agree false true p q = absurd (p.no refl (q.yes refl))
 agree false false p q = refl
+
+-- the library's word for such a test
+pub tells : {P : Type 0} {b : Bool} → Decides b P → Tells b P
+tells d = record { yes = d.0; no = λ e p. no_both (sym (d.1 p) ∙ e) }

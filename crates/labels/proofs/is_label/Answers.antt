@@ -1,22 +1,25 @@
--- The loop keeps: the capitals from `i` on decide whether the string, which has 1 to 24 bytes, is a label.
+-- The length decides first, then one byte after the other.
+use mathlib.Core.Path.{◌≡◌, sym, ◌∙◌}
+use mathlib.Core.Bool.{true}
+use lib.ListN.{length}
+use Rattle.lists.proofs.Cases.{either_lt, no_both}
 use borrow.Author.Rules.{rules}
-use Rattle.labels.proofs.Form.{forms}
+use borrow.Author.Tests.{tests}
+use Rattle.std.proofs.lemmas.Iterator.{cases_from_all, YieldsList-from_slice}
+use Rattle.labels.proofs.Form.{Lettered, Unlettered, letters_all, form_empty, form_long, form_bytes}
 use Rattle.labels.proofs.is_label.Goals as goal
 
-pub returns-then-s-lt1 : goal.returns-then-s-lt1
-returns-then-s-lt1 c = search forms
+pub returns-then-contains : goal.returns-then-contains
+returns-then-contains c =
+    let s = c.args.s.now in
+    letters_all s _
+    (cases_from_all c.all.new.self _ _ Lettered Unlettered c.all.ensures.ran (YieldsList-from_slice s cc) (λ x q k. search (rules, tests)) (λ x q k. search (rules, tests)))
+    ∙ form_bytes s (search rules) (search rules)
 
-pub returns-then-s-gt-MAX_LABEL_BYTES : goal.returns-then-s-gt-MAX_LABEL_BYTES
-returns-then-s-gt-MAX_LABEL_BYTES c = search forms
-
-pub loop-i-init : goal.loop-i-init
-loop-i-init c = (search rules, search forms)
-
-pub returns-then-not-label_byte : goal.returns-then-not-label_byte
-returns-then-not-label_byte c = search forms
-
-pub loop-i-preserved : goal.loop-i-preserved
-loop-i-preserved c = (search rules, search forms)
-
-pub returns : goal.returns
-returns c = search forms
+pub returns-else-contains : goal.returns-else-contains
+returns-else-contains c =
+    let s = c.args.s.now in
+    c.if-contains.false
+    ∙ either_lt (length s) 1 (form_empty s)
+    (λ low. either_lt 24 (length s) (form_long s)
+    (λ high. let within : c.contains.result ≡ true = search (rules, tests) in no_both (sym within ∙ c.if-contains.false)))

@@ -1,17 +1,15 @@
 -- The array so far is the capitals of the first bytes, filled up with zeros.
 use mathlib.Core.Path.{refl}
-use native.Mathlib.Omega.{arith}
-use borrow.Author.Rules.{rules}
 use Rattle.lists.specs.Lists.{pad}
 use Rattle.labels.proofs.Same.{copy_next, copy_end}
 use Rattle.labels.proofs.label_from.Goals as goal
 
 pub loop-i-init : goal.loop-i-init
 unfolding pad
-loop-i-init c = (omega arith, refl)
+loop-i-init c = refl
 
 pub loop-i-preserved : goal.loop-i-preserved
-loop-i-preserved c = (search rules, search copy_next)
+loop-i-preserved c = search copy_next
 
 pub returns : goal.returns
 returns c = search copy_end

@@ -1,23 +1,18 @@
--- What is left of the two decides: the capitals passed are the same.
-use mathlib.Core.Path.{refl}
+-- Labels of one length are compared capital by capital; labels of two lengths differ.
+use mathlib.Core.Path.{◌∙◌}
 use borrow.Author.Rules.{rules}
-use Rattle.labels.proofs.Compared.{bytes_next, bytes_stop, bytes_end, bytes_length}
+use borrow.Author.Tests.{tests, ne_eqb}
+use Rattle.std.proofs.lemmas.Iterator.{cases_from_all, YieldsList-from_slice, YieldsList-from_zip}
+use Rattle.labels.proofs.Compared.{Alike, Unlike, same_zip, bytes_length}
 use Rattle.labels.proofs.same_label.Goals as goal
 
 pub returns-then-a-b : goal.returns-then-a-b
-returns-then-a-b c = search bytes_length
+returns-then-a-b c =
+    let a = c.args.a.now in
+    let b = c.args.b.now in
+    same_zip a b _ c.if-a-b.true
+    (cases_from_all c.all.new.self _ _ Alike Unlike c.all.ensures.ran (YieldsList-from_zip (YieldsList-from_slice a cc) (YieldsList-from_slice b cc))
+    (λ x q k. search (rules, tests)) (λ x q k. search (rules, tests)))
 
-pub loop-i-init : goal.loop-i-init
-loop-i-init c = (search rules, refl)
-
-pub returns-then-x-y : goal.returns-then-x-y
-returns-then-x-y c = search bytes_stop
-
-pub loop-i-preserved : goal.loop-i-preserved
-loop-i-preserved c = let given = c.args in (
-  search rules,
-  bytes_next given.a.now given.b.now c.loop-i.i _ _ c.loop-i.invariant.1 c.if-a-b.false (search rules) (search rules) (search rules) c.if-x-y.false,
-)
-
-pub returns : goal.returns
-returns c = search bytes_end
+pub returns-else-a-b : goal.returns-else-a-b
+returns-else-a-b c = ne_eqb _ _ c.if-a-b.false ∙ bytes_length _ _ c.if-a-b.false

@@ -7,9 +7,7 @@ use lib.Dec.{eqb}
 use native.Mathlib.Omega.{arith}
 use lib.ListN.{length, get_or, set, length-set, length-map, get_or-map, get_or-eq_default}
 use lib.Seq.{ext_get_or, get_or-set_same, get_or-set_other, set_out}
-use Rattle.lists.specs.Tells.{Tells}
 use Rattle.lists.proofs.Cases.{either_eq}
-use Rattle.lists.proofs.Lists.{alike, differ, one_like}
 use Rattle.instants.specs.declared.InstantNo.{InstantNo}
 use Rattle.instants.specs.Instants.{instant_no, instant_at, instant_after}
 use Rattle.instants.specs.Instants.{dated}
@@ -100,23 +98,6 @@ copied_all l v i e g h f =
 
 pub dated-long : (v : List ℕ) (l : ℕ) (j : Bool) → length v ≡ 256 → length (dated_in v l j) ≡ 256
 dated-long v l j e = length-set v l (instant_after (instants_in v) l j) ∙ e
-
--- ── two columns compared one by one ──
-pub record Alike (v w : List ℕ) (i : ℕ) : Type 0 where
-  pub at : (j : ℕ) → j < i → get_or v j 0 ≡ get_or w j 0
-
-module _ (v w : List ℕ) where
-  pub alike_none : Alike v w 0
-  alike_none = record { at = λ j h. absurd (omega arith) }
-
-  pub alike_next : (i : ℕ) → Alike v w i → get_or v i 0 ≡ get_or w i 0 → Alike v w (i + 1)
-  alike_next i f e = record { at = one_like 0 v w 256 i f.at e }
-
-  pub alike_all : (i : ℕ) → length v ≡ 256 → length w ≡ 256 → 256 ≤ i → Alike v w i → Tells true (v ≡ w)
-  alike_all i p q h f = alike 0 v w 256 p q i h f.at
-
-  pub alike_not : (i : ℕ) → Alike v w i → (get_or v i 0 ≡ get_or w i 0 → ⊥) → Tells false (v ≡ w)
-  alike_not i f n = differ 0 v w 256 i n
 
 -- two columns that stand for the same instants are the same
 pub same_column : (v w : List ℕ) → instants_in v ≡ instants_in w → v ≡ w

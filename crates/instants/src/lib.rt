@@ -99,11 +99,8 @@ pub fn spread_instants(list: [InstantNo; MAX_LINES], instants: &mut [u16])
     requires { length instants.old ≡ max_lines }
     ensures { (length instants.new ≡ max_lines) × (list ≡ instants_in instants.new) }
 {
-    let mut i: usize = 0;
-    while i < MAX_LINES {
-        let x = list[i];
+    for (i, x) in list.iter().enumerate() {
         instants[i] = x.0;
-        i += 1;
     }
 }
 
@@ -113,10 +110,8 @@ pub fn instant_list(instants: &[u16]) -> [InstantNo; MAX_LINES]
     ensures { result ≡ instants_in instants.now }
 {
     let mut list = [InstantNo(0); MAX_LINES];
-    let mut i: usize = 0;
-    while i < MAX_LINES {
-        list[i] = InstantNo(instants[i]);
-        i += 1;
+    for (i, x) in instants.iter().enumerate() {
+        list[i] = InstantNo(*x);
     }
     list
 }
@@ -126,12 +121,5 @@ pub fn same_instants(instants: &[u16], others: &[u16]) -> bool
     requires { (length instants.now ≡ max_lines) × (length others.now ≡ max_lines) }
     ensures { Tells result (instants.now ≡ others.now) }
 {
-    let mut i: usize = 0;
-    while i < MAX_LINES {
-        if instants[i] != others[i] {
-            return false;
-        }
-        i += 1;
-    }
-    true
+    instants == others
 }

@@ -5,10 +5,10 @@ use borrow.Author.Rules.{rules}
 use Rattle.instants.proofs.instant_list.Goals as goal
 
 pub loop-i-init : goal.loop-i-init
-loop-i-init c = (search rules, refl, search copied_none)
+loop-i-init c = (refl, search copied_none)
 
 pub loop-i-preserved : goal.loop-i-preserved
-loop-i-preserved c = (search rules, simp length-set (search rules), search copied_back)
+loop-i-preserved c = (simp length-set (search rules), search (rules, copied_back))
 
 pub returns : goal.returns
-returns c = search copied_all
+returns c = search (rules, copied_all)

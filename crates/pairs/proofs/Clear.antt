@@ -1,11 +1,9 @@
--- A buffer whose first bytes are cleared one by one.
-use Prim.Native.Nat.{ℕ, suc, ◌+◌, ◌<◌}
-use mathlib.Core.Path.{◌≡◌, ap, sym, ◌∙◌}
-use mathlib.Core.List.{List, [], ◌∷◌, ◌++◌, append_assoc}
+-- A buffer whose first bytes are cleared.
+use Prim.Native.Nat.{ℕ}
+use mathlib.Core.Path.{◌≡◌, sym, ◌∙◌}
+use mathlib.Core.List.{List, [], ◌++◌}
 use native.Mathlib.Omega.{arith}
-use native.Mathlib.Numerals.{add-one}
-use lib.ListN.{length, get_or, set, drop, replicate, length-replicate, get_or-replicate, replicate-append-replicate}
-use lib.Seq.{drop-cons, set_at}
+use lib.ListN.{drop, replicate, length-replicate, get_or-replicate}
 use Rattle.trace.specs.Trace.{no_trace}
 use Rattle.pairs.specs.declared.Layout.{Layout}
 use Rattle.pairs.specs.Layout.{work_size, place, area_of}
@@ -13,13 +11,6 @@ use Rattle.pairs.specs.Pairs.{pair_byte, work_of}
 use Rattle.pairs.proofs.Places.{places}
 use Rattle.pairs.proofs.Area.{only_area}
 use Rattle.pairs.proofs.Pairs.{pair_late}
-
-pub clear_next : (w w₀ : List ℕ) (k : ℕ) → k < length w₀ → w ≡ replicate k 0 ++ drop k w₀ → set w k 0 ≡ replicate (k + 1) 0 ++ drop (k + 1) w₀
-clear_next w w₀ k h e =
-    ap (λ (l : List ℕ). set l k 0) (e ∙ ap (λ (l : List ℕ). replicate k 0 ++ l) (drop-cons w₀ k 0 h))
-    ∙ (set_at (replicate k 0) (get_or w₀ k 0) (drop (suc k) w₀) 0 k (length-replicate k 0)
-    ∙ (sym (append_assoc (replicate k 0) (0 ∷ []) (drop (suc k) w₀))
-    ∙ (λ i. replicate-append-replicate k 1 0 i ++ drop (sym (add-one k) i) w₀)))
 
 -- as many zeros as the layout has bytes are the pair bytes of no runs
 pub clear_all : (lay : Layout) (w w₀ : List ℕ) (k : ℕ) → k ≡ work_size lay → w ≡ replicate k 0 ++ drop k w₀ → w ≡ work_of lay no_trace w₀

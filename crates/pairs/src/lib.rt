@@ -102,11 +102,7 @@ pub fn clear_pairs(layout: Layout, work: &mut [u8])
     ensures { work.new ≡ work_of layout no_trace work.old }
 {
     let end = work_bytes(layout);
-    let mut k: usize = 0;
-    while k < end {
-        work[k] = 0;
-        k += 1;
-    }
+    work[..end].fill(0);
 }
 
 // The bytes of the runs from `from` to below `to`, each with the runs that begin before it.
@@ -114,17 +110,13 @@ fn store_columns(layout: Layout, t: RunTable, from: usize, to: usize, work: &mut
     requires { (work_size layout ≤ length work.old) × (from ≤ to) × (to ≤ t.count) × (t.count ≤ max_runs) }
     ensures { Stored (place layout) (pair_byte (held t)) (Columns from to) work.old work.new }
 {
-    let mut z = from;
-    while z < to {
+    for z in from..to {
         let begin = t.list[z].begin.0;
         let end = t.list[z].end.0;
-        let mut k: usize = 0;
-        while k < z {
+        for k in 0..z {
             let at = pair_place(layout, k, z);
             work[at] = set_of(t.list[k].end.0, begin, end);
-            k += 1;
         }
-        z += 1;
     }
 }
 
@@ -134,16 +126,12 @@ fn store_rows(layout: Layout, t: RunTable, from: usize, to: usize, work: &mut [u
     ensures { Stored (place layout) (pair_byte (held t)) (Rows from to t.count) work.old work.new }
 {
     let n = t.count;
-    let mut z = from;
-    while z < to {
+    for z in from..to {
         let end = t.list[z].end.0;
-        let mut k = z + 1;
-        while k < n {
+        for k in z + 1..n {
             let at = pair_place(layout, z, k);
             work[at] = set_of(end, t.list[k].begin.0, t.list[k].end.0);
-            k += 1;
         }
-        z += 1;
     }
 }
 
@@ -171,20 +159,12 @@ pub fn fill_pairs(layout: Layout, r: Record, work: &mut [u8])
     }
 }
 
-// Whether two areas have the same first bytes. It reads them all, so that many are compared at once.
+// Whether two areas have the same first bytes.
 fn same_bytes<'a>(work: &'a [u8], right: &'a [u8], end: usize) -> bool
     requires { (end ≤ length work.now) × (end ≤ length right.now) }
     ensures { Tells result (SameTo end work.now right.now) }
 {
-    let mut same = true;
-    let mut i: usize = 0;
-    while i < end {
-        if work[i] != right[i] {
-            same = false;
-        }
-        i += 1;
-    }
-    same
+    work[..end] == right[..end]
 }
 
 // Whether the pair bytes of the work area are those of the record's runs.

@@ -1,10 +1,9 @@
 -- The bytes of all pairs, stored into cleared bytes, are the pair bytes of the record, in whichever order they are stored.
-use Rattle.lists.proofs.Lists.{unmapped}
 use Rattle.pairs.proofs.Filled.{filled_rows, filled_columns}
 use Rattle.pairs.proofs.fill_pairs.Goals as goal
 
 pub returns-in-Square : goal.returns-in-Square
-returns-in-Square c = search (filled_rows, unmapped)
+returns-in-Square c = search filled_rows
 
 pub returns-in-Half : goal.returns-in-Half
-returns-in-Half c = search (filled_columns, unmapped)
+returns-in-Half c = search filled_columns

@@ -7,7 +7,7 @@ ghost use Rattle.std.specs.Prelude.{◌≡◌, ◌+◌, ◌≤◌, length};
 ghost use Rattle.lists.specs.Limits.{max_lines};
 ghost use Rattle.text_pieces.specs.Writing.{Writes, WritesFew};
 ghost use Rattle.report.specs.Text.{tally_text};
-ghost use Rattle.report.specs.RecordText.{byte_fails, lines_to, fails_to, Printable, OfTrace, PrintsRecord};
+ghost use Rattle.report.specs.RecordText.{lines_to, fails_to, Printable, OfTrace, PrintsRecord};
 ghost use Rattle.report.specs.Report.{report_size, ReportsPart};
 
 use lists::MAX_LINES;
@@ -26,39 +26,24 @@ pub enum Reported {
     Refused(u8),
 }
 
-// A line for each of the first n verdict bytes.
-fn put_lines(text: &mut [u8], verdicts: &[u8], n: usize) -> usize
-    requires { (n ≤ max_lines) × (max_lines ≤ length verdicts.now) × (report_size ≤ length text.old) }
-    ensures { Writes (lines_to verdicts.now n) text.old 0 text.new result × (result ≤ 1536) }
+// A line for each verdict byte.
+fn put_lines(text: &mut [u8], verdicts: &[u8]) -> usize
+    requires { (length verdicts.now ≤ max_lines) × (report_size ≤ length text.old) }
+    ensures { Writes (lines_to verdicts.now (length verdicts.now)) text.old 0 text.new result × (result ≤ 1536) }
 {
     let mut at: usize = 0;
-    let mut i: usize = 0;
-    while i < n {
-        at = text_pieces::put_line(text, at, (i + 1) as u32, verdicts[i]);
-        i += 1;
+    for (i, verdict) in verdicts.iter().enumerate() {
+        at = text_pieces::put_line(text, at, (i + 1) as u32, *verdict);
     }
     at
 }
 
-// 1 for a verdict byte that fails.
-fn fails(verdict: u8) -> u32
-    ensures { (result ≡ byte_fails verdict) × (result ≤ 1) }
+// How many of the verdict bytes fail.
+fn count_failing(verdicts: &[u8]) -> u32
+    requires { length verdicts.now ≤ max_lines }
+    ensures { (result ≡ fails_to verdicts.now (length verdicts.now)) × (result ≤ max_lines) }
 {
-    if verdict == 1 { 0 } else { 1 }
-}
-
-// How many of the first n verdict bytes fail.
-fn count_failing(verdicts: &[u8], n: usize) -> u32
-    requires { (n ≤ max_lines) × (max_lines ≤ length verdicts.now) }
-    ensures { (result ≡ fails_to verdicts.now n) × (result ≤ max_lines) }
-{
-    let mut failing: u32 = 0;
-    let mut i: usize = 0;
-    while i < n {
-        failing += fails(verdicts[i]);
-        i += 1;
-    }
-    failing
+    verdicts.iter().filter(|verdict| **verdict != 1).count() as u32
 }
 
 // The line of a tally.
@@ -83,13 +68,13 @@ fn put_record(text: &mut [u8], verdicts: &[u8], c: LogRead) -> usize
 {
     let state = c.state;
     let ending = c.ending;
-    let lines = state.lines.0 as usize;
-    let taken = put_lines(text, verdicts, lines);
+    let told = &verdicts[..state.lines.0 as usize];
+    let taken = put_lines(text, told);
     let end = text_pieces::put_ending(text, taken, ending);
     if text_pieces::is_unread(ending) {
         return end;
     }
-    let failing = count_failing(verdicts, lines);
+    let failing = count_failing(told);
     let tally = tallies::tally_of(state, failing);
     put_tally(text, end, tally)
 }

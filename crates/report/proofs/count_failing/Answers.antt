@@ -1,13 +1,15 @@
--- The loop's invariant: the failing ones among the bytes passed are counted.
+-- The failing ones among the bytes are counted.
+use Rattle.std.proofs.Common.{◌≡◌, not, ◌∙◌, sym, arith}
+use Rattle.std.specs.List.{count_by}
+use Rattle.std.proofs.lemmas.List.Sums.{count_by-le-length}
+use lib.Dec.{eqb}
 use borrow.Author.Rules.{rules}
-use Rattle.report.proofs.Pieces.{fails_none, fails_next, fails_all}
+use Rattle.report.proofs.Pieces.{fails_counted}
 use Rattle.report.proofs.count_failing.Goals as goal
 
-pub loop-i-init : goal.loop-i-init
-loop-i-init c = (search rules, search rules, search fails_none)
-
-pub loop-i-preserved : goal.loop-i-preserved
-loop-i-preserved c = (search rules, search rules, search fails_next)
-
 pub returns : goal.returns
-returns c = (search fails_all, search rules)
+returns c =
+    let e : c.count.result ≡ count_by (λ b. not (eqb b 1)) c.args.verdicts.now = search rules in (
+      e ∙ sym (fails_counted c.args.verdicts.now),
+      omega (arith, e, count_by-le-length (λ b. not (eqb b 1)) c.args.verdicts.now),
+    )

@@ -5,10 +5,10 @@ use Rattle.report.proofs.Pieces.{lines_none, lines_next, lines_all}
 use Rattle.report.proofs.put_lines.Goals as goal
 
 pub loop-i-init : goal.loop-i-init
-loop-i-init c = (search rules, search rules, refl, search lines_none)
+loop-i-init c = (search rules, refl, search lines_none)
 
 pub loop-i-preserved : goal.loop-i-preserved
-loop-i-preserved c = (search rules, search rules, search rules, search lines_next)
+loop-i-preserved c = (search rules, search rules, search lines_next)
 
 pub returns : goal.returns
 returns c = (search lines_all, search rules)

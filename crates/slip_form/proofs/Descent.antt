@@ -4,6 +4,7 @@ use mathlib.Core.Path.{◌≡◌, refl, sym, ap, ◌∙◌}
 use mathlib.Core.Bool.{Bool, true, false, not, ◌&&◌}
 use mathlib.Core.List.{List}
 use native.Mathlib.Omega.{arith}
+use Rattle.std.proofs.Common.{Some, None}
 use borrow.Author.Tests.{eq-eqb, ne_eqb, le-leb, lt-leb, not-true, not-false}
 use lib.Dec.{eqb, leb}
 use lib.ListN.{get_or}
@@ -18,7 +19,6 @@ use Rattle.rules.proofs.Formulas.{formula-and, formula_not, formula_some, formul
 use Rattle.shape.specs.Shape.{flat?, height}
 use Rattle.shape.proofs.Shapes.{flat-height}
 use Rattle.moments.specs.Shape.{Heights}
-use Rattle.slip_form.specs.declared.Top.TheVariants.{At, Other}
 use Rattle.slip_form.specs.Form.{SlipForm}
 use Rattle.slip_form.specs.Chain.{some?, part_of, slip_form?, TopOf}
 use Rattle.slip_form.proofs.Forms.{plain_part, form_tells}
@@ -70,13 +70,13 @@ module _ (file : List ℕ) (r : Rule) (taken : Taken file r) (x : Node) (is : x 
   form_of : Tells (slip_form? (formula_of file r)) (SlipForm (formula_of file r))
   form_of = form_tells (formula_of file r) taken.depth
 
-  other : slip_form? (formula_of file r) ≡ false → TopOf file r Other
-  other e = record { at = λ n z. absurd (let q : ◌≡◌ {A = ℕ} 0 1 = cc in omega arith); other = λ _. form_of.no e }
+  other : slip_form? (formula_of file r) ≡ false → TopOf file r None
+  other e = record { at = λ n z. absurd (cc); other = λ _. form_of.no e }
 
-  root_not : (f : Formula) → formula_of file r ≡ f → slip_form? f ≡ false → TopOf file r Other
+  root_not : (f : Formula) → formula_of file r ≡ f → slip_form? f ≡ false → TopOf file r None
   root_not f e h = other (ap slip_form? e ∙ h)
 
-  pub not_not : (x.kind ≡ 2 → ⊥) → TopOf file r Other
+  pub not_not : (x.kind ≡ 2 → ⊥) → TopOf file r None
   unfolding slip_form?
   not_not n2 =
       either_eq x.kind 3 (λ k. root_not _ (formula_some file r.nodes (r.count - 1) x is taken.nodes_good k) refl)
@@ -96,7 +96,7 @@ module _ (file : List ℕ) (r : Rule) (taken : Taken file r) (x : Node) (is : x 
     form_is = ap slip_form? (formula_not file r.nodes (r.count - 1) x is taken.nodes_good k2)
 
     module _ (y : Node) (at_top : y ≡ node_at file r.nodes x.a) where
-      pub no_chain : (y.kind ≡ 3 → ⊥) → TopOf file r Other
+      pub no_chain : (y.kind ≡ 3 → ⊥) → TopOf file r None
       no_chain k =
           other (form_is ∙ ap (λ (b : Bool). b && flat? (part_of (formula_at file r.nodes x.a))) (not_some file r.nodes x.a y at_top top_good k))
 
@@ -107,10 +107,10 @@ module _ (file : List ℕ) (r : Rule) (taken : Taken file r) (x : Node) (is : x 
             ∙ (ap (λ (c : Bool). c && flat? (part_of (formula_at file r.nodes x.a))) (ap some? (formula_some file r.nodes x.a y at_top top_good k3))
             ∙ sym e)
 
-        pub other_chain : not b ≡ true → TopOf file r Other
+        pub other_chain : not b ≡ true → TopOf file r None
         other_chain h = other (form_chain ∙ not-true b h)
 
-        pub top_chain : not b ≡ false → TopOf file r (At x.a)
+        pub top_chain : not b ≡ false → TopOf file r (Some x.a)
         top_chain h =
             record {
               at = λ n q.
@@ -120,5 +120,5 @@ module _ (file : List ℕ) (r : Rule) (taken : Taken file r) (x : Node) (is : x 
                     child = sym m ∙ ap (λ (z : Node). z.a) is;
                     form = form_of.yes (form_chain ∙ not-false b h);
                   };
-              other = λ q. absurd (let z : ◌≡◌ {A = ℕ} 0 1 = cc in omega arith);
+              other = λ q. absurd (cc);
             }

@@ -1,13 +1,11 @@
 -- How the code works, not what it means.
 -- The form of a rule as a test, and where its chain begins.
-use Rattle.std.specs.Prelude.{ℕ, ◌-◌, ◌≡◌, Bool, true, false, ◌&&◌, List, [], ◌∷◌}
+use Rattle.std.specs.Prelude.{ℕ, ◌-◌, ◌≡◌, Bool, true, false, ◌&&◌, List, [], ◌∷◌, Option, Some, None}
 use Rattle.rules.specs.declared.Rule.{Rule}
 use Rattle.rules.specs.Formula.{Formula, both, neg, exists, has, pair}
 use Rattle.rules.specs.Table.{node_at}
 use Rattle.rules.specs.Rules.{formula_of}
 use Rattle.shape.specs.Shape.{flat?}
-use Rattle.slip_form.specs.declared.Top.{Top}
-use Rattle.slip_form.specs.declared.Top.TheVariants.{At, Other}
 use Rattle.slip_form.specs.Form.{SlipForm}
 
 abbrev pub some? : Formula → Bool
@@ -45,6 +43,6 @@ pub record ChainAt (file : List ℕ) (x : Rule) (top : ℕ) : Type 0 where
   pub child : top ≡ (node_at file x.nodes (x.count - 1)).a
   pub form : SlipForm (formula_of file x)
 
-pub record TopOf (file : List ℕ) (x : Rule) (t : Top) : Type 0 where
-  pub at : (n : ℕ) → t ≡ At n → ChainAt file x n
-  pub other : t ≡ Other → SlipForm (formula_of file x) → ⊥
+pub record TopOf (file : List ℕ) (x : Rule) (t : Option ℕ) : Type 0 where
+  pub at : (n : ℕ) → t ≡ Some n → ChainAt file x n
+  pub other : t ≡ None → SlipForm (formula_of file x) → ⊥

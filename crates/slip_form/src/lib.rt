@@ -23,13 +23,6 @@ pub struct Slip {
     pub run: [RunNo; MAX_NESTED],
 }
 
-// The node at which the chain of "some" of a rule begins, if the rule has the form.
-#[derive(Clone, Copy)]
-pub enum Top {
-    At(usize),
-    Other,
-}
-
 // Whether no "some" stands below the chain of "some" at a node.
 fn is_chain(file: &[u8], first: usize, heights: &[u8], top: usize) -> bool
     requires { Good file.now first top × Heights file.now first top heights.now }
@@ -37,6 +30,7 @@ fn is_chain(file: &[u8], first: usize, heights: &[u8], top: usize) -> bool
 {
     let mut node = top;
     let mut x = node_at(file, first, node);
+    // Kept: the new form is no plainer. The walk goes down a chain of nodes, which no range or iterator gives.
     while x.kind == 3 {
         node = x.b;
         x = node_at(file, first, node);
@@ -44,23 +38,23 @@ fn is_chain(file: &[u8], first: usize, heights: &[u8], top: usize) -> bool
     heights[node] == 0
 }
 
-// The node below the "not" of a rule that has the form.
-pub fn chain_top(file: &[u8], rule: Rule) -> Top
+// The node below the "not" of a rule that has the form, at which its chain of "some" begins.
+pub fn chain_top(file: &[u8], rule: Rule) -> Option<usize>
     requires { Taken file.now rule }
     ensures { TopOf file.now rule result }
 {
     let x = node_at(file, rule.nodes, rule.count - 1);
     if x.kind != 2 {
-        return Top::Other;
+        return None;
     }
     let top = x.a;
     let y = node_at(file, rule.nodes, top);
     if y.kind != 3 {
-        return Top::Other;
+        return None;
     }
     let heights = shape::heights(file, rule.nodes, rule.count);
     if !is_chain(file, rule.nodes, &heights, top) {
-        return Top::Other;
+        return None;
     }
-    Top::At(top)
+    Some(top)
 }

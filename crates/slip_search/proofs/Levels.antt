@@ -4,6 +4,7 @@ use mathlib.Core.Path.{◌≡◌, refl, sym, ap, ap₂, subst, ◌∙◌}
 use mathlib.Core.Bool.{Bool, true, false, ◌&&◌}
 use mathlib.Core.List.{List, [], ◌∷◌, ◌++◌, append_assoc}
 use native.Mathlib.Omega.{arith}
+use Rattle.std.proofs.Common.{Option, Some, None}
 use borrow.Author.Tests.{lt-ltb, ltb-true, le-leb}
 use lib.Dec.{ltb, leb}
 use lib.ListN.{length, get_or, set, replicate, length-set}
@@ -17,6 +18,7 @@ use Rattle.logic.specs.Satisfies.{Binding, bind}
 use Rattle.logic.specs.Model.{Model, eval}
 use Rattle.lists.proofs.Below.{found_yes, found_at}
 use Rattle.shape.specs.Shape.{height}
+use Rattle.row_table.specs.Rows.{RowsOf}
 use Rattle.row_table.specs.declared.Bindings.{Bindings}
 use Rattle.row_table.specs.Ranks.{binding}
 use Rattle.moments.specs.Ready.{Ready}
@@ -28,7 +30,7 @@ use Rattle.slip_form.specs.declared.Slip.{Slip}
 use Rattle.slip_form.specs.Slips.{run_no, slip_runs}
 use Rattle.slip_form.proofs.Descent.{not_some}
 use Rattle.slip_form.specs.Chain.{some?}
-use Rattle.slip_search.specs.First.{Asked, serves, Least, First, of_ranks, AsksOf, Seeks, Tidy}
+use Rattle.slip_search.specs.First.{Asked, serves, Least, FirstOf, First, of_ranks, AsksOf, Seeks, Tidy}
 use Rattle.slip_search.proofs.Places.{tidy_none, slip_more, tidy_more}
 
 -- what the search keeps: whoever finishes the chain from here has finished it from the top, and the truth value is that of the top
@@ -89,18 +91,20 @@ module _ (table file ranks : List ℕ) (runs m : ℕ) (M : Model) (a : AsksOf ta
               top_is ∙ (served k s ∙ sym (ap (λ (τ : Binding). truth M g τ m) e ∙ and_right (ltb (get_or ranks k 0) runs) _ s));
         }
 
--- the answer at the end of the chain
-pub seeks_end : (q : Asked) (ρ₀ ρ : Binding) (f₀ f : Formula) (s : Slip) (b : Bool) → Keeps q ρ₀ f₀ (slip_runs s) ρ f → some? f ≡ false → b ≡ q.holds f ρ
-    → Seeks q ρ₀ f₀ (record { found = b; slip = s })
-unfolding First
-seeks_end q ρ₀ ρ f₀ f s b keeps plain e =
-    record {
-      first = λ h. subst (First q ρ₀ f₀) (append-nil (slip_runs s)) (keeps.finishes [] (plain, sym e ∙ h));
-      none = λ h. keeps.true_too ∙ (sym e ∙ h);
-    }
+-- where none serves, and at the end of the chain
+seeks_none : (q : Asked) (ρ₀ : Binding) (f₀ : Formula) → q.holds f₀ ρ₀ ≡ false → Seeks q ρ₀ f₀ None
+seeks_none q ρ₀ f₀ h = record { first = λ x p. absurd (cc); none = λ p. h }
 
-pub seeks_none : (q : Asked) (ρ₀ : Binding) (f₀ : Formula) (s : Slip) → q.holds f₀ ρ₀ ≡ false → Seeks q ρ₀ f₀ (record { found = false; slip = s })
-seeks_none q ρ₀ f₀ s h = record { first = λ e. no_both (sym e); none = λ e. h }
+pub seeks_end : (q : Asked) (ρ₀ ρ : Binding) (f₀ f : Formula) (s : Slip) (b : Bool) → Keeps q ρ₀ f₀ (slip_runs s) ρ f → some? f ≡ false → b ≡ q.holds f ρ
+    → (b ≡ true → Seeks q ρ₀ f₀ (Some s)) × (b ≡ false → Seeks q ρ₀ f₀ None)
+unfolding First
+seeks_end q ρ₀ ρ f₀ f s b keeps plain e = (
+  (λ h. record {
+    first = λ x p. subst (λ (y : Slip). First q ρ₀ f₀ (slip_runs y)) (cc p) (subst (First q ρ₀ f₀) (append-nil (slip_runs s)) (keeps.finishes [] (plain, sym e ∙ h)));
+    none = λ p. absurd (cc);
+  }),
+  λ h. seeks_none q ρ₀ f₀ (keeps.true_too ∙ (sym e ∙ h)),
+)
 
 -- ── the loop ──
 pub zeros_fixed : Fixed (binding from_zero)
@@ -139,19 +143,16 @@ module _ (file : List ℕ) (first : ℕ) (heights frees table : List ℕ) (runs 
     unfolding height
     room_left = let e : height (formula_at file first node) ≡ suc (height (formula_at file first x.b)) = ap height some_is in omega (arith, y.room)
 
-    abbrev AtChild : ℕ → Type 0
-    AtChild k = (M : Model) → AsksOf table file ranks runs moment M → Least (serves (of_ranks M ranks runs moment) (formula_at file first x.b) (binding b) x.a) 128 k
+    abbrev AtChild : Option ℕ → Type 0
+    AtChild r = (M : Model) → RowsOf table file runs M → FirstOf (serves (of_ranks M ranks runs moment) (formula_at file first x.b) (binding b) x.a) 128 r
 
-    pub level_none : (k : ℕ) → k ≡ 128 → AtChild k → (M : Model) → AsksOf table file ranks runs moment M
-        → Seeks (of_ranks M ranks runs moment) (binding from_zero) (formula_at file first top) (record { found = false; slip = slip })
-    level_none k e h M a =
-        let l : Least (serves (of_ranks M ranks runs moment) (formula_at file first x.b) (binding b) x.a) 128 128 =
-        subst (Least (serves (of_ranks M ranks runs moment) (formula_at file first x.b) (binding b) x.a) 128) e (h M a)
-        in
-        seeks_none (of_ranks M ranks runs moment) (binding from_zero) (formula_at file first top) slip
-        (none_found table file ranks runs moment M a x.a (formula_at file first x.b) (binding b) (binding from_zero) (formula_at file first top) (formula_at file first node) (slip_runs slip) some_is (y.keeps M a) l)
+    pub level_none : AtChild None → (M : Model) → AsksOf table file ranks runs moment M
+        → Seeks (of_ranks M ranks runs moment) (binding from_zero) (formula_at file first top) None
+    level_none h M a =
+        seeks_none (of_ranks M ranks runs moment) (binding from_zero) (formula_at file first top)
+        (none_found table file ranks runs moment M a x.a (formula_at file first x.b) (binding b) (binding from_zero) (formula_at file first top) (formula_at file first node) (slip_runs slip) some_is (y.keeps M a) (h M a.rows))
 
-    pub level_next : (k : ℕ) (c : Bindings) (z : Node) → k < 128 → get_or ranks k 0 < runs → AtChild k → binding c ≡ bind (binding b) x.a (get_or ranks k 0)
+    pub level_next : (k : ℕ) (c : Bindings) (z : Node) → k < 128 → get_or ranks k 0 < runs → AtChild (Some k) → binding c ≡ bind (binding b) x.a (get_or ranks k 0)
         → z ≡ node_at file first x.b → Level (record { count = slip.count + 1; run = set slip.run slip.count (run_no k) }) c x.b z
     level_next k c z l low h e is =
         let few = y.ready.runs_few in
@@ -164,7 +165,7 @@ module _ (file : List ℕ) (first : ℕ) (heights frees table : List ℕ) (runs 
           tidy = tidy_more slip k y.tidy (omega (arith, room_left)) y.long;
           keeps = λ M a.
               keeps_next table file ranks runs moment M a x.a (formula_at file first x.b) (binding b) (binding from_zero) (formula_at file first top) (formula_at file first node) (slip_runs slip) some_is (y.keeps M a)
-              k (binding c) _ l (h M a) e (slip_more slip.count slip.run k (omega (arith, room_left, y.long)));
+              k (binding c) _ l (h M a.rows).1 e (slip_more slip.count slip.run k (omega (arith, room_left, y.long)));
         }
 
   module _ (slip : Slip) (b : Bindings) (node : ℕ) (x : Node) (y : Level slip b node x) (k3 : x.kind ≡ 3 → ⊥) where
@@ -174,8 +175,9 @@ module _ (file : List ℕ) (first : ℕ) (heights frees table : List ℕ) (runs 
     plain : some? (formula_at file first node) ≡ false
     plain = not_some file first node x y.is good k3
 
-    pub level_end : (r : Bool) → ((M : Model) → AsksOf table file ranks runs moment M → r ≡ truth M (formula_at file first node) (binding b) moment)
+    pub level_end : (r : Bool) → ((M : Model) → RowsOf table file runs M → r ≡ truth M (formula_at file first node) (binding b) moment)
         → (M : Model) → AsksOf table file ranks runs moment M
-        → Seeks (of_ranks M ranks runs moment) (binding from_zero) (formula_at file first top) (record { found = r; slip = slip })
+        → (r ≡ true → Seeks (of_ranks M ranks runs moment) (binding from_zero) (formula_at file first top) (Some slip))
+        × (r ≡ false → Seeks (of_ranks M ranks runs moment) (binding from_zero) (formula_at file first top) None)
     level_end r h M a =
-        seeks_end (of_ranks M ranks runs moment) (binding from_zero) (binding b) (formula_at file first top) (formula_at file first node) slip r (y.keeps M a) plain (h M a)
+        seeks_end (of_ranks M ranks runs moment) (binding from_zero) (binding b) (formula_at file first top) (formula_at file first node) slip r (y.keeps M a) plain (h M a.rows)

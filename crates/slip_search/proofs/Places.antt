@@ -1,10 +1,17 @@
 -- The places of a slip: one run more, and unused places that are 0.
-use Prim.Native.Nat.{ℕ, zero, suc, ◌+◌, ◌<◌}
-use mathlib.Core.Path.{◌≡◌, refl, sym, ap, ap₂, ◌∙◌}
+use Prim.Native.Nat.{ℕ, zero, suc, ◌+◌, ◌<◌, ◌≤◌}
+use mathlib.Core.Path.{◌≡◌, refl, sym, ap, ap₂, subst, ◌∙◌}
+use mathlib.Core.Bool.{Bool, ◌&&◌}
 use mathlib.Core.List.{List, [], ◌∷◌, ◌++◌, map}
 use native.Mathlib.Omega.{arith}
 use native.Mathlib.Numerals.{add-one}
-use lib.ListN.{length, get_or, set, replicate}
+use borrow.Author.Tests.{lt-ltb, ltb-true}
+use lib.Dec.{ltb}
+use lib.ListN.{length, get_or, set, take, replicate}
+use Rattle.std.specs.List.{list_all}
+use Rattle.lists.specs.Tells.{Tells}
+use Rattle.lists.proofs.Tells.{tell_no, tell_yes, tell_by}
+use Rattle.lists.proofs.Cases.{either_bool, no_both, and_left, and_right}
 use Rattle.lists.specs.Lists.{pad}
 use Rattle.lists.proofs.Lists.{set-pad}
 use Rattle.trace.specs.declared.RunNo.{RunNo}
@@ -75,19 +82,31 @@ module _ (P : ℕ → Type 0) where
   each_at (suc n) (r ∷ l) zero h e = e.0
   each_at (suc n) (r ∷ l) (suc i) h e = each_at n l i (omega arith) e.1
 
-  one_more : (i : ℕ) (l : List RunNo) → Each P (numbers i l) → P (get_or l i (run_no 0)).0 → Each P (numbers (suc i) l)
-  unfolding Each
-  one_more zero [] e h = (h, tt)
-  one_more zero (r ∷ l) e h = (h, tt)
-  one_more (suc i) [] e h = (e.0, one_more i [] e.1 h)
-  one_more (suc i) (r ∷ l) e h = (e.0, one_more i l e.1 h)
+-- a test of each run tells whether all have a rank
+abbrev pub ranked? : List ℕ → ℕ → RunNo → Bool
+ranked? ranks runs r = ltb r.0 128 && ltb (get_or ranks r.0 0) runs
 
-  pub each_more : (i : ℕ) (l : List RunNo) → Each P (numbers i l) → P (get_or l i (run_no 0)).0 → Each P (numbers (i + 1) l)
-  each_more i l e h = rw (add-one) (one_more i l e h)
+abbrev pub HasRank : List ℕ → ℕ → ℕ → Type 0
+HasRank ranks runs k = (k < 128) × (get_or ranks k 0 < runs)
 
-  pub each_none : (l : List RunNo) → Each P (numbers 0 l)
-  unfolding Each
-  each_none l = tt
+one_tells : (ranks : List ℕ) (runs k : ℕ) (b : Bool) (ks : List ℕ) → Tells b (Each (HasRank ranks runs) ks)
+    → Tells ((ltb k 128 && ltb (get_or ranks k 0) runs) && b) (Each (HasRank ranks runs) (k ∷ ks))
+unfolding Each
+one_tells ranks runs k b ks t =
+    either_bool (ltb k 128 && ltb (get_or ranks k 0) runs)
+    (λ e.
+    subst (λ (y : Bool). Tells (y && b) (HasRank ranks runs k × Each (HasRank ranks runs) ks)) (sym e)
+    (tell_by (λ w. ((ltb-true k 128 (and_left (ltb k 128) _ e), ltb-true (get_or ranks k 0) runs (and_right (ltb k 128) _ e)), w)) (λ w. w.1) t))
+    (λ e.
+    subst (λ (y : Bool). Tells (y && b) (HasRank ranks runs k × Each (HasRank ranks runs) ks)) (sym e)
+    (tell_no (λ w. no_both (sym (ap₂ ◌&&◌ (lt-ltb k 128 w.0.0) (lt-ltb (get_or ranks k 0) runs w.0.1)) ∙ e))))
+
+pub each_tells : (ranks : List ℕ) (runs n : ℕ) (l : List RunNo) → n ≤ length l
+    → Tells (list_all (ranked? ranks runs) (take n l)) (Each (HasRank ranks runs) (numbers n l))
+unfolding Each
+each_tells ranks runs zero l h = tell_yes tt
+each_tells ranks runs (suc n) [] h = absurd (omega arith)
+each_tells ranks runs (suc n) (r ∷ l) h = one_tells ranks runs r.0 _ (numbers n l) (each_tells ranks runs n l (omega arith))
 
 pub number_at_lem : (n : ℕ) (l : List RunNo) (i : ℕ) → i < n → get_or (numbers n l) i 0 ≡ (get_or l i (run_no 0)).0
 number_at_lem zero l i h = absurd (omega arith)

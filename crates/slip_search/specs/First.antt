@@ -1,7 +1,7 @@
 -- How the code works, not what it means.
 -- The first slip, level by level: each run is the first that leaves the rest of the chain true. And whether a chain is
 -- true of given runs.
-use Rattle.std.specs.Prelude.{ℕ, ◌+◌, ◌<◌, ◌≤◌, ◌≡◌, Bool, true, false, ◌&&◌, List, [], ◌∷◌, ltb, get_or}
+use Rattle.std.specs.Prelude.{ℕ, ◌+◌, ◌<◌, ◌≤◌, ◌≡◌, Bool, true, false, ◌&&◌, List, [], ◌∷◌, Option, Some, None, ltb, get_or}
 use Rattle.lists.specs.Limits.{max_runs}
 use Rattle.rules.specs.Formula.{Formula, both, neg, exists, has, pair}
 use Rattle.logic.specs.Satisfies.{Binding, bind}
@@ -12,7 +12,6 @@ use Rattle.row_table.specs.Rows.{RowsOf}
 use Rattle.slip_form.specs.declared.Slip.{Slip}
 use Rattle.slip_form.specs.Slips.{Each, slip_runs, slip_of}
 use Rattle.slip_form.specs.Chain.{some?}
-use Rattle.slip_search.specs.declared.Sought.{Sought}
 
 -- what is asked of runs: which may be taken, what a variable is bound to for a run, and whether a formula is true
 pub record Asked : Type 0 where
@@ -29,6 +28,11 @@ pub record Least (p : ℕ → Bool) (n k : ℕ) : Type 0 where
   pub within : k ≤ n
   pub before : (j : ℕ) → j < k → p j ≡ false
   pub found : k < n → p k ≡ true
+
+-- the first number below n that passes, if one does
+abbrev pub FirstOf : (ℕ → Bool) → ℕ → Option ℕ → Type 0
+FirstOf p n None = Least p n n
+FirstOf p n (Some k) = (k < n) × Least p n k
 
 -- at each "some" the first run that serves
 unfoldable pub First : Asked → Binding → Formula → List ℕ → Type 0
@@ -70,9 +74,9 @@ pub record AsksOf (table file ranks : List ℕ) (runs m : ℕ) (M : Model) : Typ
   pub named : (i : ℕ) → i < runs → (k : ℕ) × (k < max_runs) × (get_or ranks k 0 ≡ i)
 
 -- what the search answers
-pub record Seeks (q : Asked) (ρ : Binding) (f : Formula) (s : Sought) : Type 0 where
-  pub first : s.found ≡ true → First q ρ f (slip_runs s.slip)
-  pub none : s.found ≡ false → q.holds f ρ ≡ false
+pub record Seeks (q : Asked) (ρ : Binding) (f : Formula) (s : Option Slip) : Type 0 where
+  pub first : (x : Slip) → s ≡ Some x → First q ρ f (slip_runs x)
+  pub none : s ≡ None → q.holds f ρ ≡ false
 
 -- the search's slip has its unused places 0
 abbrev pub Tidy : Slip → Type 0

@@ -6,7 +6,7 @@
 // `is_true_of` asks one: whether that part is true of given runs.
 #![tactic(auto)]
 
-ghost use Rattle.std.specs.Prelude.{◌≡◌, ◌&&◌, ℕ, ◌<◌, ◌≤◌, ltb, length, get_or};
+ghost use Rattle.std.specs.Prelude.{◌≡◌, ◌&&◌, ℕ, ◌<◌, ◌≤◌, IfSome, ltb, length, get_or};
 ghost use Rattle.lists.specs.Limits.{max_runs};
 ghost use Rattle.lists.specs.Tells.{Tells};
 ghost use Rattle.sets.specs.Sets.{mem};
@@ -20,7 +20,7 @@ ghost use Rattle.row_table.specs.Ranks.{binding};
 ghost use Rattle.moments.specs.Ready.{Ready};
 ghost use Rattle.timeline.proofs.Root.{from_zero};
 ghost use Rattle.slip_form.specs.Slips.{slip_runs};
-ghost use Rattle.slip_search.specs.First.{Least, serves, of_ranks, true_for, RanksOf, AsksOf, Seeks, Tidy, Whole};
+ghost use Rattle.slip_search.specs.First.{FirstOf, serves, of_ranks, true_for, RanksOf, AsksOf, Seeks, Tidy, Whole};
 
 use lists::MAX_RUNS;
 use moments::{Bindings, Rank};
@@ -33,25 +33,14 @@ use sets::RunSet;
 use slip_form::Slip;
 use trace::RunNo;
 
-// What a search finds.
-#[derive(Clone, Copy)]
-pub struct Sought {
-    pub found: bool,
-    pub slip: Slip,
-}
-
 // The rank of each run, MAX_RUNS where it is not finished.
 pub fn ranks_of(o: Order) -> [u8; MAX_RUNS]
     requires { (o.count ≤ max_runs) × ((i : ℕ) → i < o.count → get_or o.run i 0 < max_runs) }
     ensures { RanksOf o result }
 {
-    let n = o.count;
-    let mut ranks = [128u8; MAX_RUNS];
-    let mut i: usize = 0;
-    while i < n {
-        let k = o.run[i] as usize;
-        ranks[k] = i as u8;
-        i += 1;
+    let mut ranks = [MAX_RUNS as u8; MAX_RUNS];
+    for (rank, run) in o.run[..o.count].iter().enumerate() {
+        ranks[*run as usize] = rank as u8;
     }
     ranks
 }
@@ -83,14 +72,10 @@ fn is_kept(keep: RunSet, r: u8, runs: usize) -> bool
     ensures { result ≡ (ltb r runs && mem keep r) }
 {
     let i = r as usize;
-    if i < runs {
-        return sets::has(keep, i);
-    }
-    false
+    i < runs && sets::has(keep, i)
 }
 
-// The first run, by its number, that serves as variable v of the formula of a node at a moment; MAX_RUNS where none
-// does.
+// The first run, by its number, that serves as variable v of the formula of a node at a moment.
 fn first_run(
     file: &[u8],
     first: usize,
@@ -103,27 +88,24 @@ fn first_run(
     b: Bindings,
     ranks: &[u8],
     moment: usize,
-) -> usize
+) -> Option<usize>
     requires ready { Ready file.now first heights.now frees.now table.now runs child b × Fixed (binding b) × (moment < max_runs) }
     requires v_lt_variables { (v < variables) × (length ranks.now ≡ max_runs) }
-    ensures { (result ≤ max_runs) × (result < max_runs → get_or ranks.now result 0 < runs) × ((M : Model) → RowsOf table.now file.now runs M
-        → Least (serves (of_ranks M ranks.now runs moment) (formula_at file.now first child) (binding b) v) max_runs result) }
+    ensures { IfSome result (λ k. (k < max_runs) × (get_or ranks.now k 0 < runs)) × ((M : Model) → RowsOf table.now file.now runs M
+        → FirstOf (serves (of_ranks M ranks.now runs moment) (formula_at file.now first child) (binding b) v) max_runs result) }
 {
     let keep = moments::times::kept(file, first, heights, frees, table, runs, child, v, b);
-    let mut k: usize = 0;
-    while k < MAX_RUNS {
-        let r = ranks[k];
-        if is_kept(keep, r, runs) {
-            let at_r = rebound(b, v, Rank(r));
+    for (k, rank) in ranks.iter().enumerate() {
+        if is_kept(keep, *rank, runs) {
+            let at_rank = rebound(b, v, Rank(*rank));
             if holds_at(
-                file, first, heights, frees, table, runs, child, at_r, moment,
+                file, first, heights, frees, table, runs, child, at_rank, moment,
             ) {
-                return k;
+                return Some(k);
             }
         }
-        k += 1;
     }
-    MAX_RUNS
+    None
 }
 
 // The first slip of the chain of "some" at a node, in order of run numbers.
@@ -137,10 +119,10 @@ pub fn search(
     top: usize,
     ranks: &[u8],
     moment: usize,
-) -> Sought
+) -> Option<Slip>
     requires ready { Ready file.now first heights.now frees.now table.now runs top from_zero × (moment < max_runs) × (length ranks.now ≡ max_runs) }
     requires top_bound { height (formula_at file.now first top) ≤ max_nested }
-    ensures { Tidy result.slip × ((M : Model) → AsksOf table.now file.now ranks.now runs moment M
+    ensures { IfSome result Tidy × ((M : Model) → AsksOf table.now file.now ranks.now runs moment M
         → Seeks (of_ranks M ranks.now runs moment) (binding from_zero) (formula_at file.now first top) result) }
 {
     let mut slip = Slip {
@@ -152,18 +134,13 @@ pub fn search(
     };
     let mut node = top;
     let mut x = node_at(file, first, node);
+    // Kept: the new form is no plainer. The walk goes down a chain of nodes, which no range or iterator gives.
     while x.kind == 3 {
         let v = x.a;
         let child = x.b;
         let k = first_run(
             file, first, heights, frees, table, runs, child, v, b, ranks, moment,
-        );
-        if k == MAX_RUNS {
-            return Sought {
-                found: false,
-                slip: slip,
-            };
-        }
+        )?;
         let at = slip.count;
         slip.run[at] = RunNo(k as u8);
         slip.count = at + 1;
@@ -171,11 +148,19 @@ pub fn search(
         node = child;
         x = node_at(file, first, node);
     }
-    let found = holds_at(file, first, heights, frees, table, runs, node, b, moment);
-    Sought {
-        found: found,
-        slip: slip,
+    if holds_at(file, first, heights, frees, table, runs, node, b, moment) {
+        return Some(slip);
     }
+    None
+}
+
+// Whether a run has a rank below `runs`.
+fn has_rank(run: RunNo, ranks: &[u8], runs: usize) -> bool
+    requires { length ranks.now ≡ max_runs }
+    ensures { result ≡ (ltb run.0 max_runs && ltb (get_or ranks.now run.0 0) runs) }
+{
+    let k = run.0 as usize;
+    k < MAX_RUNS && (ranks[k] as usize) < runs
 }
 
 // Whether a slip has n runs, each of them with a rank below `runs`.
@@ -183,22 +168,12 @@ pub fn is_whole(slip: Slip, n: usize, ranks: &[u8], runs: usize) -> bool
     requires { (n ≤ max_nested) × (length ranks.now ≡ max_runs) }
     ensures { Tells result (Whole slip n ranks.now runs) }
 {
-    if slip.count != n {
-        return false;
-    }
-    let mut i: usize = 0;
-    while i < n {
-        let run = slip.run[i];
-        let k = run.0 as usize;
-        if MAX_RUNS <= k {
-            return false;
-        }
-        if runs <= ranks[k] as usize {
-            return false;
-        }
-        i += 1;
-    }
-    true
+    slip.count == n
+        && slip
+            .run
+            .iter()
+            .take(n)
+            .all(|run| has_rank(*run, ranks, runs))
 }
 
 // Whether the part below the chain of "some" at a node is true of the runs of a slip.
@@ -225,6 +200,7 @@ pub fn is_true_of(
     };
     let mut node = top;
     let mut x = node_at(file, first, node);
+    // Kept: the new form is no plainer. The chain says where the walk ends, which a `for` over the slip's runs would test and break at.
     while x.kind == 3 {
         let run = slip.run[i];
         let k = run.0 as usize;

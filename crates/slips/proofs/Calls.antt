@@ -4,6 +4,7 @@ use mathlib.Core.Path.{◌≡◌, refl, sym, subst, ◌∙◌}
 use mathlib.Core.Bool.{Bool, true, false}
 use mathlib.Core.List.{List}
 use native.Mathlib.Omega.{arith}
+use Rattle.std.proofs.Common.{Option, None}
 use lib.ListN.{replicate}
 use Rattle.lists.specs.Lists.{pad}
 use Rattle.lists.specs.Tells.{Tells}
@@ -14,8 +15,6 @@ use Rattle.rules.specs.declared.Rule.{Rule}
 use Rattle.rules.specs.declared.RuleRead.{RuleRead}
 use Rattle.rules.specs.Formula.{Formula}
 use Rattle.rules.specs.Rules.{rule_of, formula_of, ReadsRule}
-use Rattle.slip_form.specs.declared.Top.{Top}
-use Rattle.slip_form.specs.declared.Top.TheVariants.{Other}
 use Rattle.slip_form.specs.Form.{SlipForm}
 use Rattle.slip_form.specs.Slips.{run_no}
 use Rattle.slip_form.specs.Chain.{slip_form?, ChainAt, TopOf}
@@ -61,7 +60,7 @@ module _ (file : List ℕ) (r : Record) (refuses : ℕ → Type 0) (says : (t : 
     of_rule : (y : Rule) → rule_of file ≡ RuleRead.Rule y → SlipForm (formula_of file y) → SlipForm (formula_of file x)
     of_rule y q = subst (λ (z : Rule). SlipForm (formula_of file z)) (same_rule y q)
 
-    pub form_refused : (t : Top) → TopOf file x t → t ≡ Other → refuses 26 → SlipCall file r refuses says
+    pub form_refused : (t : Option ℕ) → TopOf file x t → t ≡ None → refuses 26 → SlipCall file r refuses says
     form_refused t w z h =
         record {
           rule = λ m q. no_rule o (rule_of file) x m reads.answer e q;

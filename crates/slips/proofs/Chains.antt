@@ -1,9 +1,10 @@
 -- The chain of a rule that has the form: what the search needs there, and what its answers say of the runs of a record.
 use Prim.Native.Nat.{ℕ, suc, ◌+◌, ◌-◌, ◌<◌, ◌≤◌}
 use mathlib.Core.Path.{◌≡◌, refl, sym, ap, subst, ◌∙◌}
-use mathlib.Core.Bool.{Bool, true, false, cond}
+use mathlib.Core.Bool.{Bool, true, cond}
 use mathlib.Core.List.{List, [], ◌∷◌}
 use native.Mathlib.Omega.{arith}
+use Rattle.std.proofs.Common.{Option, Some, None, IfSome}
 use borrow.Author.Tests.{leb-true}
 use lib.ListN.{length, get_or}
 use Rattle.lists.proofs.Cases.{no_both}
@@ -31,13 +32,12 @@ use Rattle.slip_form.specs.Slips.{bind_each, unbound, Each, Fits, slip_runs}
 use Rattle.slip_form.specs.Chain.{ChainAt}
 use Rattle.slip_form.proofs.Forms.{without-flat}
 use Rattle.slip_form.proofs.Descent.{top_low}
-use Rattle.slip_search.specs.declared.Sought.{Sought}
 use Rattle.slip_search.specs.First.{First, true_for, of_runs, of_ranks, AsksOf, Seeks, Tidy, Whole}
 use Rattle.slip_search.proofs.Places.{length-numbers}
 use Rattle.slips.specs.declared.Prepared.{Prepared}
 use Rattle.slips.specs.declared.Found.TheVariants as Found
 use Rattle.slips.specs.declared.Passing.{Passing}
-use Rattle.slips.specs.Answers.{with_slip, without_slip, FindsIn, ReadsIn}
+use Rattle.slips.specs.Answers.{without_slip, FindsIn, ReadsIn}
 use Rattle.slips.specs.Parts.{Ranked, PreparedFor, found_by, FindsOf, ReadsOf}
 use Rattle.slips.proofs.Ranked.{first_of_runs, truth_same, asks_of, true_of_runs, all_finished, all_ranked}
 use Rattle.slips.proofs.Meaning.{true_of_each}
@@ -127,7 +127,7 @@ module _ (file : List ℕ) (x : Rule) (top : ℕ) (taken : Taken file x) (at : C
             asks_of log u acc all_of.order all_of.held p.ranks all_of.ranks (p.runs - 1) last p.table file
             (subst (λ (n : ℕ). RowsOf p.table file n (rank_model u)) all_of.count all_of.rows)
 
-        module _ (y : Sought) (tidy : Tidy y.slip)
+        module _ (y : Option Slip) (tidy : IfSome y Tidy)
             (seeks : (M : Model) → AsksOf p.table file p.ranks p.runs (p.runs - 1) M
             → Seeks (of_ranks M p.ranks p.runs (p.runs - 1)) (binding from_zero) (formula_at file x.nodes top) y) where
           sought : Seeks (of_ranks (rank_model u) p.ranks all_of.order.count (p.runs - 1)) (binding from_zero) (formula_at file x.nodes top) y
@@ -135,12 +135,12 @@ module _ (file : List ℕ) (x : Rule) (top : ℕ) (taken : Taken file x) (at : C
               subst (λ (n : ℕ). AsksOf p.table file p.ranks n (p.runs - 1) (rank_model u) → Seeks (of_ranks (rank_model u) p.ranks n (p.runs - 1)) (binding from_zero) (formula_at file x.nodes top) y)
               all_of.count (seeks (rank_model u)) asks
 
-          finds_by : (b : Bool) → y.found ≡ b → FindsIn u (formula_of file x) s (cond b (with_slip y.slip) (without_slip Found.Nothing))
-          finds_by true e =
-              found_in_lem u (formula_of file x) s y.slip tidy
-              (subst (λ (c : Formula). First (of_runs (model_of u)) unbound c (slip_runs y.slip)) (chain_is s)
-              (first_of_runs log u acc all_of.order all_of.held p.ranks all_of.ranks (p.runs - 1) last (slip_runs y.slip) no_scope unbound (binding from_zero) (formula_at file x.nodes top) chain_closed (λ v z. no_both (sym z)) (sought.first e)))
-          finds_by false e =
+          finds_by : (z : Option Slip) → y ≡ z → FindsIn u (formula_of file x) s (found_by z)
+          finds_by (Some w) e =
+              found_in_lem u (formula_of file x) s w (subst (λ (o : Option Slip). IfSome o Tidy) e tidy)
+              (subst (λ (c : Formula). First (of_runs (model_of u)) unbound c (slip_runs w)) (chain_is s)
+              (first_of_runs log u acc all_of.order all_of.held p.ranks all_of.ranks (p.runs - 1) last (slip_runs w) no_scope unbound (binding from_zero) (formula_at file x.nodes top) chain_closed (λ v z. no_both (sym z)) (sought.first w e)))
+          finds_by None e =
               false_none u (formula_of file x) s
               (ap (eval (model_of u) unbound) (sym (chain_is s))
               ∙ (truth_same log u acc all_of.order all_of.held p.ranks all_of.ranks (p.runs - 1) last (formula_at file x.nodes top) unbound (binding from_zero) chain_closed ∙ sought.none e))
@@ -189,11 +189,11 @@ module _ (file : List ℕ) (x : Rule) (top : ℕ) (taken : Taken file x) (at : C
     pub finds-nothing : p.runs ≡ 0 → FindsOf file x r (without_slip Found.Nothing)
     finds-nothing z s log u acc e = no_runs_lem log u acc e s z
 
-    pub finds_sought : (y : Sought) → (p.runs ≡ 0 → ⊥) → Tidy y.slip
+    pub finds_sought : (y : Option Slip) → (p.runs ≡ 0 → ⊥) → IfSome y Tidy
         → ((M : Model) → AsksOf p.table file p.ranks p.runs (p.runs - 1) M
         → Seeks (of_ranks M p.ranks p.runs (p.runs - 1)) (binding from_zero) (formula_at file x.nodes top) y)
         → FindsOf file x r (found_by y)
-    finds_sought y some tidy seeks s log u acc e = finds_by log u acc e s (omega (arith, some)) y tidy seeks y.found refl
+    finds_sought y some tidy seeks s log u acc e = finds_by log u acc e s (omega (arith, some)) y tidy seeks y refl
 
     pub whole_some : (y : Slip) → Whole y (height (formula_at file x.nodes top)) p.ranks p.runs → 1 ≤ p.runs
     whole_some y w = some_run p.ranks p.runs (slip_runs y) (omega (arith, length-numbers y.count y.run, w.count, chain_some)) w.ranked

@@ -15,8 +15,7 @@ use lists::MAX_RUNS;
 use row_table::table::TABLE_WORDS;
 use rule_file::MAX_NESTED;
 use rules::{MAX_NODES, Rule, RuleRead};
-use slip_form::{Slip, Top};
-use slip_search::Sought;
+use slip_form::Slip;
 use trace::{Record, RunNo};
 
 // What finding a slip answers: the slip beside it is the first that passes, or none does, or the number of a refusal.
@@ -90,17 +89,16 @@ fn without_slip(found: Found) -> Finding
 }
 
 // The answer that a search gives.
-fn found_by(s: Sought) -> Finding
+fn found_by(s: Option<Slip>) -> Finding
     ensures { result ≡ found_by s }
 {
-    let slip = s.slip;
-    if s.found {
-        return Finding {
+    match s {
+        Some(slip) => Finding {
             found: Found::First,
             slip: slip,
-        };
+        },
+        None => without_slip(Found::Nothing),
     }
-    without_slip(Found::Nothing)
 }
 
 // The first slip of the runs of a record, for the rule whose chain of "some" begins at node `top`.
@@ -175,8 +173,8 @@ pub fn first_slip(file: &[u8], r: Record) -> Finding
         RuleRead::Rule(rule) => {
             let t = slip_form::chain_top(file, rule);
             match t {
-                Top::Other => return without_slip(Found::Refused(26)),
-                Top::At(top) => {
+                None => return without_slip(Found::Refused(26)),
+                Some(top) => {
                     if !replay::is_record(r) {
                         return without_slip(Found::Refused(21));
                     }
@@ -197,8 +195,8 @@ pub fn passes(file: &[u8], r: Record, slip: Slip) -> Passing
         RuleRead::Rule(rule) => {
             let t = slip_form::chain_top(file, rule);
             match t {
-                Top::Other => return Passing::Refused(26),
-                Top::At(top) => {
+                None => return Passing::Refused(26),
+                Some(top) => {
                     if !replay::is_record(r) {
                         return Passing::Refused(21);
                     }

@@ -1,5 +1,5 @@
 -- The runs before this one do not serve: each has no rank, is left out by the evaluator, or was asked for.
-use Prim.Native.Nat.{ℕ, ◌-◌, ◌≤◌, ◌<◌}
+use Prim.Native.Nat.{ℕ, ◌<◌}
 use mathlib.Core.Path.{◌≡◌}
 use mathlib.Core.Bool.{false}
 use Rattle.rules.specs.Table.{formula_at}
@@ -10,7 +10,4 @@ use Rattle.slip_search.specs.First.{serves, of_ranks}
 use Rattle.slip_search.proofs.first_run.Given as goal
 
 abbrev pub invariant-loop-k : goal.invariant-loop-k
-invariant-loop-k l = (l.k ≤ 128) × ((M : Model) → RowsOf l.table l.file l.runs M → (j : ℕ) → j < l.k → serves (of_ranks M l.ranks l.runs l.moment) (formula_at l.file l.first l.child) (binding l.b) l.v j ≡ false)
-
-abbrev pub decreases-loop-k : goal.decreases-loop-k
-decreases-loop-k l = 128 - l.k
+invariant-loop-k l = (M : Model) → RowsOf l.table l.file l.runs M → (j : ℕ) → j < l.k → serves (of_ranks M l.ranks l.runs l.moment) (formula_at l.file l.first l.child) (binding l.b) l.v j ≡ false

@@ -1,34 +1,31 @@
--- The runs looked at so far all have a rank; the first without one, or another count, is what keeps the slip from being whole.
-use Prim.Native.Nat.{ℕ, ◌<◌}
-use mathlib.Core.Path.{◌≡◌, subst}
+-- Each run is tested; another number of them keeps the slip from being whole.
+use mathlib.Core.Path.{◌≡◌, sym, subst}
+use mathlib.Core.Bool.{Bool}
+use Prim.Native.Nat.{ℕ}
+use lib.ListN.{length, take}
 use native.Mathlib.Omega.{arith}
-use lib.ListN.{get_or}
-use Rattle.lists.proofs.Tells.{tell_no, tell_yes}
-use Rattle.slip_form.specs.Slips.{Each, run_no, numbers}
-use Rattle.slip_search.proofs.Places.{each_at, each_more, each_none}
+use Rattle.std.proofs.Common.{rules}
+use borrow.Author.Tests.{tests, ne_eqb}
+use Rattle.std.specs.List.{list_all}
+use Rattle.std.proofs.lemmas.Iterator.{YieldsList-from_slice, YieldsList-from_take}
+use Rattle.std.proofs.lemmas.Iterator.Search.{all_from_yields_List}
+use Rattle.lists.specs.Tells.{Tells}
+use Rattle.lists.proofs.Tells.{tell_no, tell_by}
+use Rattle.slip_form.specs.Slips.{Each, numbers}
+use Rattle.slip_search.specs.First.{Whole}
+use Rattle.slip_search.proofs.Places.{ranked?, HasRank, each_tells}
 use Rattle.slip_search.proofs.is_whole.Goals as goal
 
 pub returns-then-slip-n : goal.returns-then-slip-n
-returns-then-slip-n c = tell_no (λ w. c.if-slip-n.true w.count)
+returns-then-slip-n c = let a = c.args in
+    let ranked = ranked? a.ranks.now a.runs in
+    let long : length a.slip.run ≡ 4 = search rules in
+    let e : c.all.result ≡ list_all ranked (take a.n a.slip.run) = all_from_yields_List ranked _ _ c.all.result c.all.ensures.ran (YieldsList-from_take a.n (YieldsList-from_slice a.slip.run (cc)) c.take.ensures.count) (λ x y q k. search (rules, tests)) in
+    let t : Tells c.all.result (Each (HasRank a.ranks.now a.runs) (numbers a.n a.slip.run)) = subst (λ (y : Bool). Tells y (Each (HasRank a.ranks.now a.runs) (numbers a.n a.slip.run))) (sym e) (each_tells a.ranks.now a.runs a.n a.slip.run (omega (arith, c.requires.0))) in
+    let s = c.if-slip-n.true in
+    tell_by
+    (λ w. record { count = s; ranked = subst (λ (k : ℕ). Each (HasRank a.ranks.now a.runs) (numbers k a.slip.run)) (sym s) w })
+    (λ w. subst (λ (k : ℕ). Each (HasRank a.ranks.now a.runs) (numbers k a.slip.run)) s w.ranked) t
 
-pub loop-i-init : goal.loop-i-init
-loop-i-init c = (omega arith, each_none (λ k. (k < 128) × (get_or c.args.ranks.now k 0 < c.args.runs)) c.args.slip.run)
-
-pub returns-then-k-ge-MAX_RUNS : goal.returns-then-k-ge-MAX_RUNS
-returns-then-k-ge-MAX_RUNS c = tell_no (λ w. omega (arith, c.if-k-ge-MAX_RUNS.true, (each_at (λ k. (k < 128) × (get_or c.args.ranks.now k 0 < c.args.runs)) c.args.slip.count c.args.slip.run c.loop-i.i (omega (arith, w.count)) w.ranked).0))
-
-pub overflow_cast-ranks : goal.overflow_cast-ranks
-overflow_cast-ranks c = omega (arith, c.type_inv.ranks (get_or c.args.slip.run c.loop-i.i (run_no 0)).0)
-
-pub returns-then-runs-ranks : goal.returns-then-runs-ranks
-returns-then-runs-ranks c = tell_no (λ w. omega (arith, c.if-runs-ranks.true, (each_at (λ k. (k < 128) × (get_or c.args.ranks.now k 0 < c.args.runs)) c.args.slip.count c.args.slip.run c.loop-i.i (omega (arith, w.count)) w.ranked).1))
-
-pub loop-i-preserved : goal.loop-i-preserved
-loop-i-preserved c = (omega arith, each_more (λ k. (k < 128) × (get_or c.args.ranks.now k 0 < c.args.runs)) c.loop-i.i c.args.slip.run c.loop-i.invariant.1 (omega arith, omega (arith, c.if-runs-ranks.false)))
-
-pub returns : goal.returns
-returns c = let done : c.loop-i.i ≡ c.args.slip.count = omega (arith, c.if-slip-n.false, c.loop-i-test.false) in
-    tell_yes (record {
-      count = c.if-slip-n.false;
-      ranked = subst (λ (n : ℕ). Each (λ k. (k < 128) × (get_or c.args.ranks.now k 0 < c.args.runs)) (numbers n c.args.slip.run)) done c.loop-i.invariant.1;
-    })
+pub returns-else-slip-n : goal.returns-else-slip-n
+returns-else-slip-n c = subst (λ (y : Bool). Tells y (Whole c.args.slip c.args.n c.args.ranks.now c.args.runs)) (sym (ne_eqb _ _ c.if-slip-n.false)) (tell_no (λ w. c.if-slip-n.false w.count))

@@ -1,4 +1,3 @@
-use Prim.Native.Nat.{◌<◌}
 use native.Mathlib.Omega.{arith}
 use Rattle.rules.proofs.Formulas.{good_room}
 use Rattle.slip_search.proofs.Levels.{level_start, child_ready, variable_low, room_left, level_none, level_next, level_end}
@@ -10,14 +9,14 @@ node_at-x-requires c = good_room c.args.file.now c.args.first c.args.top c.requi
 pub loop-x-init : goal.loop-x-init
 loop-x-init c = level_start c.args.file.now c.args.first c.args.heights.now c.args.frees.now c.args.table.now c.args.runs c.args.top c.args.ranks.now c.args.moment _ c.requires.ready.0 c.requires.top_bound c.node_at-x.ensures
 
-pub first_run-k-requires : goal.first_run-k-requires
-first_run-k-requires c = record { ready = ((child_ready c.args.file.now c.args.first c.args.heights.now c.args.frees.now c.args.table.now c.args.runs c.args.top c.args.ranks.now c.args.moment c.loop-x.slip c.loop-x.b c.loop-x.node c.loop-x.x c.loop-x.invariant c.loop-x-test.true).1, c.loop-x.invariant.fixed, c.requires.ready.1); v_lt_variables = (variable_low c.args.file.now c.args.first c.args.heights.now c.args.frees.now c.args.table.now c.args.runs c.args.top c.args.ranks.now c.args.moment c.loop-x.slip c.loop-x.b c.loop-x.node c.loop-x.x c.loop-x.invariant c.loop-x-test.true, c.requires.ready.2) }
+pub first_run-requires : goal.first_run-requires
+first_run-requires c = record { ready = ((child_ready c.args.file.now c.args.first c.args.heights.now c.args.frees.now c.args.table.now c.args.runs c.args.top c.args.ranks.now c.args.moment c.loop-x.slip c.loop-x.b c.loop-x.node c.loop-x.x c.loop-x.invariant c.loop-x-test.true).1, c.loop-x.invariant.fixed, c.requires.ready.1); v_lt_variables = (variable_low c.args.file.now c.args.first c.args.heights.now c.args.frees.now c.args.table.now c.args.runs c.args.top c.args.ranks.now c.args.moment c.loop-x.slip c.loop-x.b c.loop-x.node c.loop-x.x c.loop-x.invariant c.loop-x-test.true, c.requires.ready.2) }
 
-pub returns-then-k-eq-MAX_RUNS : goal.returns-then-k-eq-MAX_RUNS
-returns-then-k-eq-MAX_RUNS c = (c.loop-x.invariant.tidy, level_none c.args.file.now c.args.first c.args.heights.now c.args.frees.now c.args.table.now c.args.runs c.args.top c.args.ranks.now c.args.moment c.loop-x.slip c.loop-x.b c.loop-x.node c.loop-x.x c.loop-x.invariant c.loop-x-test.true _ c.if-k-eq-MAX_RUNS.true (λ M a. c.first_run-k.ensures.2 M a.rows))
+pub returns-in_err-k : goal.returns-in_err-k
+returns-in_err-k c = rw c.from_residual.ensures (tt, level_none c.args.file.now c.args.first c.args.heights.now c.args.frees.now c.args.table.now c.args.runs c.args.top c.args.ranks.now c.args.moment c.loop-x.slip c.loop-x.b c.loop-x.node c.loop-x.x c.loop-x.invariant c.loop-x-test.true c.in_err-k.ensures.1)
 
 pub overflow_cast-slip : goal.overflow_cast-slip
-overflow_cast-slip c = omega (arith, c.first_run-k.ensures.0)
+overflow_cast-slip c = omega (arith, c.in_ok-k.ensures.0.0)
 
 pub bounds-slip-at : goal.bounds-slip-at
 bounds-slip-at c = omega (arith, room_left c.args.file.now c.args.first c.args.heights.now c.args.frees.now c.args.table.now c.args.runs c.args.top c.args.ranks.now c.args.moment c.loop-x.slip c.loop-x.b c.loop-x.node c.loop-x.x c.loop-x.invariant c.loop-x-test.true)
@@ -26,7 +25,7 @@ pub overflow_add-slip : goal.overflow_add-slip
 overflow_add-slip c = omega (arith, room_left c.args.file.now c.args.first c.args.heights.now c.args.frees.now c.args.table.now c.args.runs c.args.top c.args.ranks.now c.args.moment c.loop-x.slip c.loop-x.b c.loop-x.node c.loop-x.x c.loop-x.invariant c.loop-x-test.true)
 
 pub bounds-ranks-k : goal.bounds-ranks-k
-bounds-ranks-k c = omega (arith, c.requires.ready.2, c.first_run-k.ensures.0)
+bounds-ranks-k c = omega (arith, c.requires.ready.2, c.in_ok-k.ensures.0.0)
 
 pub rebound-b-requires : goal.rebound-b-requires
 rebound-b-requires c = variable_low c.args.file.now c.args.first c.args.heights.now c.args.frees.now c.args.table.now c.args.runs c.args.top c.args.ranks.now c.args.moment c.loop-x.slip c.loop-x.b c.loop-x.node c.loop-x.x c.loop-x.invariant c.loop-x-test.true
@@ -38,11 +37,13 @@ pub loop-x-smaller : goal.loop-x-smaller
 loop-x-smaller c = (child_ready c.args.file.now c.args.first c.args.heights.now c.args.frees.now c.args.table.now c.args.runs c.args.top c.args.ranks.now c.args.moment c.loop-x.slip c.loop-x.b c.loop-x.node c.loop-x.x c.loop-x.invariant c.loop-x-test.true).0
 
 pub loop-x-preserved : goal.loop-x-preserved
-loop-x-preserved c = let low : c.first_run-k.result < 128 = omega (arith, c.first_run-k.ensures.0) in
-    level_next c.args.file.now c.args.first c.args.heights.now c.args.frees.now c.args.table.now c.args.runs c.args.top c.args.ranks.now c.args.moment c.loop-x.slip c.loop-x.b c.loop-x.node c.loop-x.x c.loop-x.invariant c.loop-x-test.true _ _ _ low (c.first_run-k.ensures.1 low) (λ M a. c.first_run-k.ensures.2 M a.rows) c.rebound-b.ensures c.node_at-x-in-loop-x.ensures
+loop-x-preserved c = level_next c.args.file.now c.args.first c.args.heights.now c.args.frees.now c.args.table.now c.args.runs c.args.top c.args.ranks.now c.args.moment c.loop-x.slip c.loop-x.b c.loop-x.node c.loop-x.x c.loop-x.invariant c.loop-x-test.true _ _ _ c.in_ok-k.ensures.0.0 c.in_ok-k.ensures.0.1 c.in_ok-k.ensures.1 c.rebound-b.ensures c.node_at-x-in-loop-x.ensures
 
-pub holds_at-found-requires : goal.holds_at-found-requires
-holds_at-found-requires c = (c.loop-x.invariant.ready, c.loop-x.invariant.fixed, c.requires.ready.1)
+pub holds_at-requires : goal.holds_at-requires
+holds_at-requires c = (c.loop-x.invariant.ready, c.loop-x.invariant.fixed, c.requires.ready.1)
+
+pub returns-then-holds_at : goal.returns-then-holds_at
+returns-then-holds_at c = (c.loop-x.invariant.tidy, λ M a. (level_end c.args.file.now c.args.first c.args.heights.now c.args.frees.now c.args.table.now c.args.runs c.args.top c.args.ranks.now c.args.moment c.loop-x.slip c.loop-x.b c.loop-x.node c.loop-x.x c.loop-x.invariant c.loop-x-test.false _ c.holds_at.ensures M a).0 c.if-holds_at.true)
 
 pub returns : goal.returns
-returns c = (c.loop-x.invariant.tidy, level_end c.args.file.now c.args.first c.args.heights.now c.args.frees.now c.args.table.now c.args.runs c.args.top c.args.ranks.now c.args.moment c.loop-x.slip c.loop-x.b c.loop-x.node c.loop-x.x c.loop-x.invariant c.loop-x-test.false _ (λ M a. c.holds_at-found.ensures M a.rows))
+returns c = (tt, λ M a. (level_end c.args.file.now c.args.first c.args.heights.now c.args.frees.now c.args.table.now c.args.runs c.args.top c.args.ranks.now c.args.moment c.loop-x.slip c.loop-x.b c.loop-x.node c.loop-x.x c.loop-x.invariant c.loop-x-test.false _ c.holds_at.ensures M a).1 c.if-holds_at.false)

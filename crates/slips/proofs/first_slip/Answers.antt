@@ -12,14 +12,14 @@ returns-in-Refused c = rule_refused c.args.file.now c.args.r (λ n. _ ≡ withou
 pub chain_top-t-requires : goal.chain_top-t-requires
 chain_top-t-requires c = c.read_rule-read.ensures.taken _ c.in-Rule.is
 
-pub returns-in-Other : goal.returns-in-Other
-returns-in-Other c = form_refused c.args.file.now c.args.r (λ n. _ ≡ without_slip (Found.Refused n)) (λ t f z. FindsIn t f z _) _ c.read_rule-read.ensures _ c.in-Rule.is _ c.chain_top-t.ensures c.in-Other.is c.without_slip-in-Other.ensures
+pub returns-in-None : goal.returns-in-None
+returns-in-None c = form_refused c.args.file.now c.args.r (λ n. _ ≡ without_slip (Found.Refused n)) (λ t f z. FindsIn t f z _) _ c.read_rule-read.ensures _ c.in-Rule.is _ c.chain_top-t.ensures c.in-None.is c.without_slip-in-None.ensures
 
 pub returns-then-not-is_record : goal.returns-then-not-is_record
-returns-then-not-is_record c = record_refused c.args.file.now c.args.r (λ n. _ ≡ without_slip (Found.Refused n)) (λ t f z. FindsIn t f z _) _ c.read_rule-read.ensures _ c.in-Rule.is _ (c.chain_top-t.ensures.at _ c.in-At.is) _ c.is_record.ensures (not-true _ c.if-not-is_record.true-raw) c.without_slip-then-not-is_record.ensures
+returns-then-not-is_record c = record_refused c.args.file.now c.args.r (λ n. _ ≡ without_slip (Found.Refused n)) (λ t f z. FindsIn t f z _) _ c.read_rule-read.ensures _ c.in-Rule.is _ (c.chain_top-t.ensures.at _ c.in-Some.is) _ c.is_record.ensures (not-true _ c.if-not-is_record.true-raw) c.without_slip-then-not-is_record.ensures
 
 pub first_of-requires : goal.first_of-requires
-first_of-requires c = record { taken = (c.read_rule-read.ensures.taken _ c.in-Rule.is, c.is_record.ensures.yes (not-false _ c.if-not-is_record.false-raw)); chain_at = c.chain_top-t.ensures.at _ c.in-At.is }
+first_of-requires c = record { taken = (c.read_rule-read.ensures.taken _ c.in-Rule.is, c.is_record.ensures.yes (not-false _ c.if-not-is_record.false-raw)); chain_at = c.chain_top-t.ensures.at _ c.in-Some.is }
 
-pub returns-in-At : goal.returns-in-At
-returns-in-At c = answered c.args.file.now c.args.r (λ n. _ ≡ without_slip (Found.Refused n)) (λ t f z. FindsIn t f z _) _ c.read_rule-read.ensures _ c.in-Rule.is _ (c.chain_top-t.ensures.at _ c.in-At.is) _ c.is_record.ensures (not-false _ c.if-not-is_record.false-raw) c.first_of.ensures
+pub returns-in-Some : goal.returns-in-Some
+returns-in-Some c = answered c.args.file.now c.args.r (λ n. _ ≡ without_slip (Found.Refused n)) (λ t f z. FindsIn t f z _) _ c.read_rule-read.ensures _ c.in-Rule.is _ (c.chain_top-t.ensures.at _ c.in-Some.is) _ c.is_record.ensures (not-false _ c.if-not-is_record.false-raw) c.first_of.ensures

@@ -13,14 +13,14 @@ returns-in-Refused c = rule_refused c.args.file.now c.args.r (λ n. _ ≡ Passin
 pub chain_top-t-requires : goal.chain_top-t-requires
 chain_top-t-requires c = c.read_rule-read.ensures.taken _ c.in-Rule.is
 
-pub returns-in-Other : goal.returns-in-Other
-returns-in-Other c = form_refused c.args.file.now c.args.r (λ n. _ ≡ Passing.Refused n) (λ t f z. ReadsIn t f z (slip_runs c.args.slip) _) _ c.read_rule-read.ensures _ c.in-Rule.is _ c.chain_top-t.ensures c.in-Other.is refl
+pub returns-in-None : goal.returns-in-None
+returns-in-None c = form_refused c.args.file.now c.args.r (λ n. _ ≡ Passing.Refused n) (λ t f z. ReadsIn t f z (slip_runs c.args.slip) _) _ c.read_rule-read.ensures _ c.in-Rule.is _ c.chain_top-t.ensures c.in-None.is refl
 
 pub returns-then-not-is_record : goal.returns-then-not-is_record
-returns-then-not-is_record c = record_refused c.args.file.now c.args.r (λ n. _ ≡ Passing.Refused n) (λ t f z. ReadsIn t f z (slip_runs c.args.slip) _) _ c.read_rule-read.ensures _ c.in-Rule.is _ (c.chain_top-t.ensures.at _ c.in-At.is) _ c.is_record.ensures (not-true _ c.if-not-is_record.true-raw) refl
+returns-then-not-is_record c = record_refused c.args.file.now c.args.r (λ n. _ ≡ Passing.Refused n) (λ t f z. ReadsIn t f z (slip_runs c.args.slip) _) _ c.read_rule-read.ensures _ c.in-Rule.is _ (c.chain_top-t.ensures.at _ c.in-Some.is) _ c.is_record.ensures (not-true _ c.if-not-is_record.true-raw) refl
 
 pub read_slip-requires : goal.read_slip-requires
-read_slip-requires c = record { taken = (c.read_rule-read.ensures.taken _ c.in-Rule.is, c.is_record.ensures.yes (not-false _ c.if-not-is_record.false-raw)); chain_at = c.chain_top-t.ensures.at _ c.in-At.is }
+read_slip-requires c = record { taken = (c.read_rule-read.ensures.taken _ c.in-Rule.is, c.is_record.ensures.yes (not-false _ c.if-not-is_record.false-raw)); chain_at = c.chain_top-t.ensures.at _ c.in-Some.is }
 
-pub returns-in-At : goal.returns-in-At
-returns-in-At c = answered c.args.file.now c.args.r (λ n. _ ≡ Passing.Refused n) (λ t f z. ReadsIn t f z (slip_runs c.args.slip) _) _ c.read_rule-read.ensures _ c.in-Rule.is _ (c.chain_top-t.ensures.at _ c.in-At.is) _ c.is_record.ensures (not-false _ c.if-not-is_record.false-raw) c.read_slip.ensures
+pub returns-in-Some : goal.returns-in-Some
+returns-in-Some c = answered c.args.file.now c.args.r (λ n. _ ≡ Passing.Refused n) (λ t f z. ReadsIn t f z (slip_runs c.args.slip) _) _ c.read_rule-read.ensures _ c.in-Rule.is _ (c.chain_top-t.ensures.at _ c.in-Some.is) _ c.is_record.ensures (not-false _ c.if-not-is_record.false-raw) c.read_slip.ensures

@@ -4,7 +4,8 @@ use mathlib.Core.Path.{◌≡◌, refl, ap, sym, ◌∙◌}
 use mathlib.Core.List.{List, [], ◌∷◌, ◌++◌, append_assoc, append-nil}
 use native.Mathlib.Omega.{arith}
 use native.Mathlib.Numerals.{add-one}
-use lib.ListN.{length, get_or}
+use lib.ListN.{length, get_or, take}
+use lib.Seq.{length-take-le}
 use Rattle.trace.specs.declared.RunNo.{RunNo}
 use Rattle.text_pieces.specs.Pieces.{decimal, count_text}
 use Rattle.text_pieces.specs.Writing.{Writes, WritesFew}
@@ -43,17 +44,27 @@ pub runs_none : (rs : List RunNo) (text : List ℕ) (p : ℕ) → p ≤ length t
 unfolding runs_text
 runs_none rs text p h = wrote_nothing text p h
 
-pub runs_next : (rs : List RunNo) (text text₁ text₂ : List ℕ) (p k q r : ℕ) (run : RunNo) → Writes (runs_to rs k) text p text₁ q
-    → run ≡ get_or rs k (run_no 0) → WritesFew 4 (count_text run.0) text₁ q text₂ r → Writes (runs_to rs (k + 1)) text p text₂ r
-runs_next rs text text₁ text₂ p k q r run a e b =
+pub runs_next : (rs : List RunNo) (text text₁ text₂ : List ℕ) (p k q r n : ℕ) → Writes (runs_to rs k) text p text₁ q
+    → n ≡ (get_or rs k (run_no 0)).0 → WritesFew 4 (count_text n) text₁ q text₂ r → Writes (runs_to rs (k + 1)) text p text₂ r
+runs_next rs text text₁ text₂ p k q r n a e b =
     writes_same
-    (ap (λ (x : RunNo). runs_to rs k ++ count_text x.0) e ∙ (sym (runs_more rs k) ∙ ap (runs_to rs) (sym (add-one k))))
+    (ap (λ (x : ℕ). runs_to rs k ++ count_text x) e ∙ (sym (runs_more rs k) ∙ ap (runs_to rs) (sym (add-one k))))
     (then a b.writes)
 
-pub runs_all : (rs : List RunNo) (n : ℕ) (text text₁ : List ℕ) (p k q : ℕ) → k ≤ n → n ≤ k → n ≤ 4 → q ≤ p + 4 * k
-    → Writes (runs_to rs k) text p text₁ q → WritesFew 16 (runs_to rs n) text p text₁ q
-runs_all rs n text text₁ p k q h l f m w =
-    record { writes = writes_same (ap (runs_to rs) (let e : k ≡ n = omega arith in e)) w; few = omega arith }
+-- the numbers of the first runs are in the list of these alone
+numbers_front : (n : ℕ) (rs : List RunNo) → n ≤ length rs → numbers n (take n rs) ≡ numbers n rs
+numbers_front zero rs h = refl
+numbers_front (suc n) [] h = absurd (omega arith)
+numbers_front (suc n) (r ∷ rs) h = ap (λ (l : List ℕ). r.0 ∷ l) (numbers_front n rs (omega arith))
+
+pub runs_all : (rs : List RunNo) (n : ℕ) (text text₁ : List ℕ) (p k q : ℕ) → length rs ≡ 4 → n ≤ 4 → k ≤ length (take n rs) → length (take n rs) ≤ k
+    → q ≤ p + 4 * k → Writes (runs_to (take n rs) k) text p text₁ q → WritesFew 16 (runs_to rs n) text p text₁ q
+runs_all rs n text text₁ p k q four h l m few w =
+    let e : k ≡ n = omega (arith, length-take-le n rs (omega arith)) in
+    record {
+      writes = writes_same (ap (runs_to (take n rs)) e ∙ ap runs_text (numbers_front n rs (omega arith))) w;
+      few = omega arith;
+    }
 
 pub slip_written : (slip : Slip) (n : ℕ) (text text₁ text₂ text₃ : List ℕ) (p q r s : ℕ) → WritesFew 3 (decimal n) text p text₁ q
     → WritesFew 16 (runs_text (slip_runs slip)) text₁ q text₂ r → Writes (10 ∷ []) text₂ r text₃ s → WritesFew 20 (slip_text n (slip_runs slip)) text p text₃ s

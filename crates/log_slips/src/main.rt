@@ -68,13 +68,9 @@ fn put_runs(text: &mut [u8], at: usize, slip: Slip) -> usize
     requires { (at + 16 ≤ length text.old) × (slip.count ≤ max_nested) }
     ensures { WritesFew 16 (runs_text (slip_runs slip)) text.old at text.new result }
 {
-    let n = slip.count;
     let mut end = at;
-    let mut i: usize = 0;
-    while i < n {
-        let run = slip.run[i];
-        end = text_pieces::put_count(text, end, run.0 as u32);
-        i += 1;
+    for run in &slip.run[..slip.count] {
+        end = text_pieces::put_count(text, end, u32::from(run.0));
     }
     end
 }

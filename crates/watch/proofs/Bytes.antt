@@ -1,5 +1,5 @@
 -- The bytes of one line, read one by one: no LF is among them before the last.
-use Prim.Native.Nat.{ℕ, zero, suc, ◌+◌, ◌-◌, ◌<◌, ◌≤◌}
+use Prim.Native.Nat.{ℕ, zero, suc, ◌+◌, ◌<◌, ◌≤◌}
 use mathlib.Core.Path.{◌≡◌, sym, ap, subst, ◌∙◌}
 use mathlib.Core.Bool.{true, false}
 use mathlib.Core.Logic.{inl, inr}
@@ -50,11 +50,8 @@ more-ends a b f h e rest =
 
 -- one byte more in a buffer
 module _ (n : ℕ) (xs : List ℕ) (b : ℕ) (h : n < length xs) where
-  pub byte_within : n + 1 ≤ length (set xs n b)
+  byte_within : n + 1 ≤ length (set xs n b)
   byte_within = omega (arith, length-set xs n b)
-
-  pub byte_less : length (set xs n b) - (n + 1) < length xs - n
-  byte_less = omega (arith, length-set xs n b)
 
   stored : take (n + 1) (set xs n b) ≡ take n xs ++ (b ∷ [])
   stored = ap (λ (k : ℕ). take k (set xs n b)) (add-one n) ∙ take-suc-set xs n b h
@@ -69,15 +66,15 @@ module _ (n : ℕ) (xs : List ℕ) (b : ℕ) (h : n < length xs) where
       subst OneLine (sym stored) (inl (more-ends (take n xs) b f (omega (arith, length-take-le n xs (let k : n ≤ length xs = omega arith in k))) e)),
     )
 
-pub byte_same : (n : ℕ) (xs : List ℕ) (b : ℕ) (ys : List ℕ) → length xs ≡ length ys → length (set xs n b) ≡ length ys
-byte_same n xs b ys e = length-set xs n b ∙ e
-
 pub byte_few : (n : ℕ) (xs : List ℕ) (b m : ℕ) → length xs ≤ m → length (set xs n b) ≤ m
 byte_few n xs b m h = omega (arith, length-set xs n b)
 
 -- without an LF, to the end of the input or of the buffer
 pub free_read : (n : ℕ) (xs : List ℕ) → n ≤ length xs → has? 10 (take n xs) ≡ false → LineRead (Filled.Bytes n) xs
 free_read n xs h f = (counts-within n xs h, inr f)
+
+pub all_read : (n : ℕ) (xs : List ℕ) → n ≤ length xs → length xs ≤ n → has? 10 (take n xs) ≡ false → LineRead (Filled.Bytes (length xs)) xs
+all_read n xs h l f = subst (λ (k : ℕ). LineRead (Filled.Bytes k) xs) (let e : n ≡ length xs = omega arith in e) (free_read n xs h f)
 
 pub line_counted : (a : Filled) (n : ℕ) (xs : List ℕ) → a ≡ Filled.Bytes n → LineRead a xs → IsPrefixLen n xs
 line_counted a n xs e f = (subst (λ (x : Filled). LineRead x xs) e f).0

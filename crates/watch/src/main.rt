@@ -85,22 +85,20 @@ fn read_line(from: Stdin, line: &mut [u8], why: &mut Option<io::Error>) -> Fille
     requires { length line.old ≤ 40 }
     ensures { LineRead result line.new }
 {
-    let mut n: usize = 0;
-    while n < line.len() {
+    for (n, place) in line.iter_mut().enumerate() {
         let byte = read_byte(from, why);
         match byte {
             Byte::Failed => return Filled::Failed,
             Byte::End => return Filled::Bytes(n),
             Byte::Is(b) => {
-                line[n] = b;
-                n += 1;
+                *place = b;
                 if b == b'\n' {
-                    return Filled::Bytes(n);
+                    return Filled::Bytes(n + 1);
                 }
             }
         }
     }
-    Filled::Bytes(n)
+    Filled::Bytes(line.len())
 }
 
 // The text of an outcome, where so many lines are accepted after it.

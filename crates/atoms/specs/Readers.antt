@@ -1,5 +1,5 @@
 -- What the readers of rules answer, and what the answers mean.
-use Rattle.std.specs.Prelude.{ℕ, zero, suc, ◌+◌, ◌-◌, ◌*◌, ◌≤◌, ◌≡◌, List, length, take, drop}
+use Rattle.std.specs.Prelude.{ℕ, zero, suc, ◌+◌, ◌-◌, ◌*◌, ◌≤◌, ◌≡◌, List, length, take, drop, Option, Some, None}
 use Rattle.signs.specs.Signs.{Got, read, outside}
 use Rattle.atoms.specs.Tree.{Tree, size}
 use Rattle.atoms.specs.Emit.{put, emit, inside as within}
@@ -16,10 +16,12 @@ pub record Done (text : List ℕ) (at k : ℕ) (s : List ℕ) (w : ℕ) (tb : Li
   pub room : n + 4 * at ≤ k + 4 * p
   pub table : left ≡ tb
 
--- what a reader answers: no node where the text is outside the grammar
-abbrev pub Reads : {A : Type 0} → (A → ℕ) → (A → List ℕ) → List ℕ → ℕ → ℕ → Got A → Reading → List ℕ → Type 0
-Reads width made text at k (read t s) r left = Done text at k s (width t) (made t) r.at r.count left
-Reads width made text at k outside r left = r.count ≡ 0
+-- what a reader answers: nothing where the text is outside the grammar
+abbrev pub Reads : {A : Type 0} → (A → ℕ) → (A → List ℕ) → List ℕ → ℕ → ℕ → Got A → Option Reading → List ℕ → Type 0
+Reads width made text at k (read t s) (Some r) left = Done text at k s (width t) (made t) r.at r.count left
+Reads width made text at k outside None left = Unit {0}
+Reads width made text at k (read t s) None left = ⊥
+Reads width made text at k outside (Some r) left = ⊥
 
 -- what each reader asks: a place in a text of at most 4,096 bytes, no more nodes than bytes read allow, and a whole table
 pub record Ready (text : List ℕ) (at : ℕ) (ns : List ℕ) (k : ℕ) (table : List ℕ) : Type 0 where
@@ -35,7 +37,7 @@ pub record Stored (before wanted after : List ℕ) : Type 0 where
   pub long : length after ≡ length before
 
 -- a reader of parts that have no rule inside
-pub record ReadsAtom (g : List ℕ → Got Tree) (text : List ℕ) (at : ℕ) (ns : List ℕ) (k : ℕ) (before : List ℕ) (r : Reading) (after : List ℕ) : Type 0 where
+pub record ReadsAtom (g : List ℕ → Got Tree) (text : List ℕ) (at : ℕ) (ns : List ℕ) (k : ℕ) (before : List ℕ) (r : Option Reading) (after : List ℕ) : Type 0 where
   pub long : length after ≡ length before
   pub reads : Reads size (emit before k ns) text at k (g (drop at text)) r after
 

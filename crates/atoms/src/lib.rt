@@ -5,7 +5,7 @@ pub mod atoms;
 pub mod names;
 pub mod nodes;
 
-// The place behind what was read, and how many nodes there are now; or none, where the text is outside the grammar.
+// The place behind what was read, and how many nodes there are now.
 #[derive(Clone, Copy)]
 pub struct Reading {
     pub at: usize,

@@ -8,9 +8,9 @@ use native.Mathlib.Numerals.{add-one}
 use lib.ListN.{length, get_or, drop, drop_of_length-le}
 use lib.Seq.{drop-cons}
 use borrow.Author.Tests.{eq-eqb, ne_eqb, not-true, not-false}
+use Rattle.std.specs.Prelude.{Some, None}
 use Rattle.signs.specs.Signs.{blank?, skip, sign}
 use Rattle.signs.specs.Finding.{FindsSign, Behind}
-use Rattle.signs.specs.declared.Found.{Found}
 
 -- the text from a place on, in code's terms
 pub step : (s : List ℕ) (i : ℕ) → i < length s → drop i s ≡ get_or s i 0 ∷ drop (i + 1) s
@@ -31,15 +31,15 @@ module _ (s : List ℕ) (i : ℕ) where
 
 -- a sign of one byte
 module _ (s : List ℕ) (at p c : ℕ) (b : Behind s at p) where
-  pub one_found : p < length s → get_or s p 0 ≡ c → FindsSign s at (sign (c ∷ []) (drop at s)) (Found.At (p + 1))
+  pub one_found : p < length s → get_or s p 0 ≡ c → FindsSign s at (sign (c ∷ []) (drop at s)) (Some (p + 1))
   unfolding sign
   one_found h e = record { says = rw (b.answer, step s p h, eq-eqb (get_or s p 0) c e) (refl, omega (arith, b.ahead), omega arith) }
 
-  pub one_other : p < length s → (get_or s p 0 ≡ c → ⊥) → FindsSign s at (sign (c ∷ []) (drop at s)) Found.Nothing
+  pub one_other : p < length s → (get_or s p 0 ≡ c → ⊥) → FindsSign s at (sign (c ∷ []) (drop at s)) None
   unfolding sign
   one_other h e = record { says = rw (b.answer, step s p h, ne_eqb (get_or s p 0) c e) tt }
 
-  pub one_none : length s ≤ p → FindsSign s at (sign (c ∷ []) (drop at s)) Found.Nothing
+  pub one_none : length s ≤ p → FindsSign s at (sign (c ∷ []) (drop at s)) None
   unfolding sign
   one_none h = record { says = rw (b.answer, drop_of_length-le s h) tt }
 

@@ -13,6 +13,7 @@ use Rattle.std.specs.List.{between}
 use Rattle.std.proofs.lemmas.Slice.{between_to_end}
 use Rattle.std.proofs.lemmas.List.Edits.{get_or-between}
 use Rattle.lists.proofs.Cases.{either_eq}
+use Rattle.std.specs.Prelude.{Option, Some, None}
 use Rattle.signs.specs.Signs.{Got, read, outside, capital?, word_byte?, name_more, name}
 use Rattle.signs.specs.Finding.{WordSays, ReadsWord, Behind}
 use Rattle.signs.specs.declared.Word.{Word}
@@ -82,7 +83,7 @@ module _ (text : List ℕ) (p i : ℕ) (inside : p < length text) where
   byte_behind h = get_or-between text (p + 1) (length text) i 0 (omega (arith, h, all_length))
 
   module _ (n : ℕ) (v : Named behind_capital (get_or text p 0) n i) where
-    pub name-ended : length behind_capital ≤ i → ReadsWord text p (name_more 7 (get_or text p 0) (drop (p + 1) text)) (Word.Word n (length text))
+    pub name-ended : length behind_capital ≤ i → ReadsWord text p (name_more 7 (get_or text p 0) (drop (p + 1) text)) (Some (record { value = n; at = length text }))
     name-ended h =
         let e : drop i behind_capital ≡ [] = drop_of_length-le behind_capital h in
         let f : drop (length text) text ≡ [] = drop_of_length-le text (omega arith) in
@@ -92,7 +93,7 @@ module _ (text : List ℕ) (p i : ℕ) (inside : p < length text) where
       inner : drop i behind_capital ≡ get_or behind_capital i 0 ∷ drop (i + 1) behind_capital
       inner = step behind_capital i h
 
-      pub name-stopped : not b ≡ true → ReadsWord text p (name_more 7 (get_or text p 0) (drop (p + 1) text)) (Word.Word n (p + 1 + i))
+      pub name-stopped : not b ≡ true → ReadsWord text p (name_more 7 (get_or text p 0) (drop (p + 1) text)) (Some (record { value = n; at = p + 1 + i }))
       name-stopped e =
           record {
             says =
@@ -100,7 +101,7 @@ module _ (text : List ℕ) (p i : ℕ) (inside : p < length text) where
                 (refl, sym inner ∙ left_behind, omega arith, omega (arith, all_length));
           }
 
-      pub name-long : not b ≡ false → i ≡ 7 → ReadsWord text p (name_more 7 (get_or text p 0) (drop (p + 1) text)) Word.Nothing
+      pub name-long : not b ≡ false → i ≡ 7 → ReadsWord text p (name_more 7 (get_or text p 0) (drop (p + 1) text)) None
       name-long e g =
           record {
             says =
@@ -122,22 +123,22 @@ module _ (text : List ℕ) (p i : ℕ) (inside : p < length text) where
           }
 
 -- ── the whole name ──
-says_earlier : (s : List ℕ) (at p : ℕ) → at ≤ p → (g : Got ℕ) (r : Word) → WordSays s p g r → WordSays s at g r
-says_earlier s at p h (read n l) (Word.Word m q) d = (d.0, d.1, omega (arith, d.2), d.3)
-says_earlier s at p h outside Word.Nothing d = tt
-says_earlier s at p h (read n l) Word.Nothing d = d
-says_earlier s at p h outside (Word.Word m q) d = d
+says_earlier : (s : List ℕ) (at p : ℕ) → at ≤ p → (g : Got ℕ) (r : Option Word) → WordSays s p g r → WordSays s at g r
+says_earlier s at p h (read n l) (Some w) d = (d.0, d.1, omega (arith, d.2), d.3)
+says_earlier s at p h outside None d = tt
+says_earlier s at p h (read n l) None d = d
+says_earlier s at p h outside (Some w) d = d
 
 module _ (s : List ℕ) (at p : ℕ) (b : Behind s at p) where
-  pub no_name_end : length s ≤ p → ReadsWord s at (name (drop at s)) Word.Nothing
+  pub no_name_end : length s ≤ p → ReadsWord s at (name (drop at s)) None
   unfolding name
   no_name_end h = record { says = rw (b.answer, drop_of_length-le s h) tt }
 
   module _ (h : p < length s) (c : Bool) (q : c ≡ capital? (get_or s p 0)) where
-    pub no_name-small : not c ≡ true → ReadsWord s at (name (drop at s)) Word.Nothing
+    pub no_name-small : not c ≡ true → ReadsWord s at (name (drop at s)) None
     unfolding name
     no_name-small e = record { says = rw (b.answer, step s p h, sym q ∙ not-true c e) tt }
 
-    pub name_read : not c ≡ false → (r : Word) → ReadsWord s p (name_more 7 (get_or s p 0) (drop (p + 1) s)) r → ReadsWord s at (name (drop at s)) r
+    pub name_read : not c ≡ false → (r : Option Word) → ReadsWord s p (name_more 7 (get_or s p 0) (drop (p + 1) s)) r → ReadsWord s at (name (drop at s)) r
     unfolding name
     name_read e r x = record { says = rw (b.answer, step s p h, sym q ∙ not-false c e) (says_earlier s at p b.ahead (name_more 7 (get_or s p 0) (drop (p + 1) s)) r x.says) }

@@ -12,9 +12,9 @@ use borrow.Author.Tests.{eq-eqb, ne_eqb, not-true, not-false}
 use Rattle.std.specs.List.{starts_with, between}
 use Rattle.std.proofs.lemmas.Slice.{between_to_end}
 use Rattle.lists.proofs.Cases.{either_eq, no_both}
+use Rattle.std.specs.Prelude.{Some, None}
 use Rattle.signs.specs.Signs.{behind, sign}
 use Rattle.signs.specs.Finding.{FindsSign, Behind}
-use Rattle.signs.specs.declared.Found.{Found}
 
 -- the bytes w in front, and what is left behind them
 behind_start : (w s : List ℕ) → starts_with eqb s w ≡ true → behind w s ≡ some (drop (length w) s)
@@ -37,13 +37,13 @@ module _ (s w : List ℕ) (at p : ℕ) (b : Behind s at p) (r : Bool) (q : r ≡
   rest : between p (length s) s ≡ drop p s
   rest = between_to_end s p (length s) (omega arith)
 
-  pub word_other : not r ≡ true → FindsSign s at (sign w (drop at s)) Found.Nothing
+  pub word_other : not r ≡ true → FindsSign s at (sign w (drop at s)) None
   unfolding sign
   word_other e =
       let h : starts_with eqb (drop p s) w ≡ false = ap (λ (l : List ℕ). starts_with eqb l w) (sym rest) ∙ (sym q ∙ not-true r e) in
       record { says = rw (b.answer, behind_other w (drop p s) h) tt }
 
-  pub word_found : 1 ≤ length w → not r ≡ false → (r ≡ true → length w ≤ length (between p (length s) s)) → FindsSign s at (sign w (drop at s)) (Found.At (p + length w))
+  pub word_found : 1 ≤ length w → not r ≡ false → (r ≡ true → length w ≤ length (between p (length s) s)) → FindsSign s at (sign w (drop at s)) (Some (p + length w))
   unfolding sign
   word_found l e m =
       let h : starts_with eqb (drop p s) w ≡ true = ap (λ (l : List ℕ). starts_with eqb l w) (sym rest) ∙ (sym q ∙ not-false r e) in

@@ -1,30 +1,29 @@
 -- What the readers of signs answer, and what the answers mean.
-use Rattle.std.specs.Prelude.{ℕ, zero, suc, ◌<◌, ◌≤◌, ◌≡◌, List, length, drop, true, false}
-use Rattle.std.proofs.Math.Option.{Option, none, some}
+use Rattle.std.specs.Prelude.{ℕ, zero, suc, ◌<◌, ◌≤◌, ◌≡◌, List, length, drop, true, false, Option, Some, None}
+use Rattle.std.proofs.Math.Option.{Option as Maybe, none, some}
 use Rattle.lists.specs.Lists.{has?, past}
 use Rattle.signs.specs.Signs.{Got, read, outside, skip, sign}
-use Rattle.signs.specs.declared.Found.{Found}
 use Rattle.signs.specs.declared.Word.{Word}
 use Rattle.signs.specs.declared.Run.{Run}
 
 -- a sign looked for at a place: found, and the place behind it
-abbrev pub SignSays : List ℕ → ℕ → Option (List ℕ) → Found → Type 0
-SignSays text at (some s) (Found.At p) = (s ≡ drop p text) × (at < p) × (p ≤ length text)
-SignSays text at none Found.Nothing = Unit {0}
-SignSays text at (some s) Found.Nothing = ⊥
-SignSays text at none (Found.At p) = ⊥
+abbrev pub SignSays : List ℕ → ℕ → Maybe (List ℕ) → Option ℕ → Type 0
+SignSays text at (some s) (Some p) = (s ≡ drop p text) × (at < p) × (p ≤ length text)
+SignSays text at none None = Unit {0}
+SignSays text at (some s) None = ⊥
+SignSays text at none (Some p) = ⊥
 
-pub record FindsSign (text : List ℕ) (at : ℕ) (o : Option (List ℕ)) (r : Found) : Type 0 where
+pub record FindsSign (text : List ℕ) (at : ℕ) (o : Maybe (List ℕ)) (r : Option ℕ) : Type 0 where
   pub says : SignSays text at o r
 
 -- a name or a label read at a place
-abbrev pub WordSays : List ℕ → ℕ → Got ℕ → Word → Type 0
-WordSays text at (read n s) (Word.Word m p) = (m ≡ n) × (s ≡ drop p text) × (at < p) × (p ≤ length text)
-WordSays text at outside Word.Nothing = Unit {0}
-WordSays text at (read n s) Word.Nothing = ⊥
-WordSays text at outside (Word.Word m p) = ⊥
+abbrev pub WordSays : List ℕ → ℕ → Got ℕ → Option Word → Type 0
+WordSays text at (read n s) (Some w) = (w.value ≡ n) × (s ≡ drop w.at text) × (at < w.at) × (w.at ≤ length text)
+WordSays text at outside None = Unit {0}
+WordSays text at (read n s) None = ⊥
+WordSays text at outside (Some w) = ⊥
 
-pub record ReadsWord (text : List ℕ) (at : ℕ) (g : Got ℕ) (r : Word) : Type 0 where
+pub record ReadsWord (text : List ℕ) (at : ℕ) (g : Got ℕ) (r : Option Word) : Type 0 where
   pub says : WordSays text at g r
 
 -- the place of the next sign
@@ -34,9 +33,9 @@ pub record Behind (text : List ℕ) (at p : ℕ) : Type 0 where
   pub inside : p ≤ length text
 
 -- the place behind the first quote
-abbrev pub FindsQuote : List ℕ → ℕ → Found → Type 0
-FindsQuote text at (Found.At p) = (has? 39 (drop at text) ≡ true) × (past 39 (drop at text) ≡ drop p text) × (at < p) × (p ≤ length text)
-FindsQuote text at Found.Nothing = has? 39 (drop at text) ≡ false
+abbrev pub FindsQuote : List ℕ → ℕ → Option ℕ → Type 0
+FindsQuote text at (Some p) = (has? 39 (drop at text) ≡ true) × (past 39 (drop at text) ≡ drop p text) × (at < p) × (p ≤ length text)
+FindsQuote text at None = has? 39 (drop at text) ≡ false
 
 -- the sign with the bytes w, c times from one place to another
 abbrev pub Repeated : List ℕ → List ℕ → ℕ → ℕ → ℕ → Type 0

@@ -8,18 +8,11 @@ ghost use Rattle.std.specs.Prelude.{◌≡◌, Bool, [], ◌∷◌, ◌≤◌, �
 ghost use Rattle.signs.specs.Signs.{blank?, capital?, word_byte?, skip as skip_of, sign as sign_of, name as name_of, name_more, label as label_of, exist_sign, same_sign};
 ghost use Rattle.signs.specs.Finding.{FindsSign, ReadsWord, Behind, FindsQuote, Runs};
 
-// The place behind a sign, where the text has it.
-#[derive(Clone, Copy)]
-pub enum Found {
-    At(usize),
-    Nothing,
-}
-
 // A name as a number, or a label's place from the end of the text; and the place behind it.
 #[derive(Clone, Copy)]
-pub enum Word {
-    Word(usize, usize),
-    Nothing,
+pub struct Word {
+    pub value: usize,
+    pub at: usize,
 }
 
 // How many times a sign stands one behind another, and the place behind them.
@@ -61,18 +54,16 @@ pub fn skip(text: &[u8], at: usize) -> usize
     text.len()
 }
 
-// A sign of one byte.
-pub fn sign(text: &[u8], at: usize, c: u8) -> Found
+// A sign of one byte: the place behind it.
+pub fn sign(text: &[u8], at: usize, c: u8) -> Option<usize>
     requires { at ≤ length text.now }
     ensures { FindsSign text.now at (sign_of (c ∷ []) (drop at text.now)) result }
 {
     let p = skip(text, at);
-    if p < text.len() {
-        if text[p] == c {
-            return Found::At(p + 1);
-        }
+    if p < text.len() && text[p] == c {
+        return Some(p + 1);
     }
-    Found::Nothing
+    None
 }
 
 // A sign of one byte, as often as it follows, but at most so many times.
@@ -82,8 +73,7 @@ pub fn repeated(text: &[u8], at: usize, c: u8, most: usize) -> Run
 {
     let mut p = at;
     for n in 0..most {
-        let mark = sign(text, p, c);
-        let Found::At(q) = mark else {
+        let Some(q) = sign(text, p, c) else {
             return Run { count: n, at: p };
         };
         p = q;
@@ -91,26 +81,26 @@ pub fn repeated(text: &[u8], at: usize, c: u8, most: usize) -> Run
     Run { count: most, at: p }
 }
 
-// A sign of several bytes.
-fn keyword(text: &[u8], at: usize, w: &[u8]) -> Found
+// A sign of several bytes: the place behind it.
+fn keyword(text: &[u8], at: usize, w: &[u8]) -> Option<usize>
     requires { (at ≤ length text.now) × (1 ≤ length w.now) }
     ensures { FindsSign text.now at (sign_of w.now (drop at text.now)) result }
 {
     let p = skip(text, at);
     if !text[p..].starts_with(w) {
-        return Found::Nothing;
+        return None;
     }
-    Found::At(p + w.len())
+    Some(p + w.len())
 }
 
-pub fn exist_sign(text: &[u8], at: usize) -> Found
+pub fn exist_sign(text: &[u8], at: usize) -> Option<usize>
     requires { at ≤ length text.now }
     ensures { FindsSign text.now at (sign_of exist_sign (drop at text.now)) result }
 {
     keyword(text, at, b"exist")
 }
 
-pub fn same_sign(text: &[u8], at: usize) -> Found
+pub fn same_sign(text: &[u8], at: usize) -> Option<usize>
     requires { at ≤ length text.now }
     ensures { FindsSign text.now at (sign_of same_sign (drop at text.now)) result }
 {
@@ -121,63 +111,63 @@ pub fn same_sign(text: &[u8], at: usize) -> Found
 const NAME_REST: usize = 7;
 
 // A name as a number.
-pub fn name(text: &[u8], at: usize) -> Word
+pub fn name(text: &[u8], at: usize) -> Option<Word>
     requires { at ≤ length text.now }
     ensures { ReadsWord text.now at (name_of (drop at text.now)) result }
 {
     let p = skip(text, at);
-    if text.len() <= p {
-        return Word::Nothing;
-    }
-    if !is_capital(text[p]) {
-        return Word::Nothing;
+    if text.len() <= p || !is_capital(text[p]) {
+        return None;
     }
     name_rest(text, p)
 }
 
 // The name whose capital stands at p.
-fn name_rest(text: &[u8], p: usize) -> Word
+fn name_rest(text: &[u8], p: usize) -> Option<Word>
     requires { p < length text.now }
     ensures { ReadsWord text.now p (name_more 7 (get_or text.now p 0) (drop (p + 1) text.now)) result }
 {
     let mut n = usize::from(text[p]);
     for (i, b) in text[p + 1..].iter().enumerate() {
         if !is_word_byte(*b) {
-            return Word::Word(n, p + 1 + i);
+            return Some(Word {
+                value: n,
+                at: p + 1 + i,
+            });
         }
         if i == NAME_REST {
-            return Word::Nothing;
+            return None;
         }
         n = 256 * n + usize::from(*b);
     }
-    Word::Word(n, text.len())
+    Some(Word {
+        value: n,
+        at: text.len(),
+    })
 }
 
-// The place of the first quote.
-fn quote(text: &[u8], at: usize) -> Found
+// The place behind the first quote.
+fn quote(text: &[u8], at: usize) -> Option<usize>
     requires { at ≤ length text.now }
     ensures { FindsQuote text.now at result }
 {
     for i in at..text.len() {
         if text[i] == b'\'' {
-            return Found::At(i + 1);
+            return Some(i + 1);
         }
     }
-    Found::Nothing
+    None
 }
 
 // A label, by its place from the end of the text.
-pub fn label(text: &[u8], at: usize) -> Word
+pub fn label(text: &[u8], at: usize) -> Option<Word>
     requires { at ≤ length text.now }
     ensures { ReadsWord text.now at (label_of (drop at text.now)) result }
 {
-    let open = sign(text, at, 39);
-    let Found::At(p) = open else {
-        return Word::Nothing;
-    };
-    let shut = quote(text, p);
-    let Found::At(e) = shut else {
-        return Word::Nothing;
-    };
-    Word::Word(text.len() - p, e)
+    let open = sign(text, at, b'\'')?;
+    let at = quote(text, open)?;
+    Some(Word {
+        value: text.len() - open,
+        at,
+    })
 }

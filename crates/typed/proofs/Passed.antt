@@ -1,10 +1,11 @@
 -- Behind a rule no blank is left: what stands there is a sign, or nothing.
 use Prim.Native.Nat.{ℕ, zero, suc, ◌+◌, ◌-◌, ◌*◌}
 use mathlib.Core.Path.{◌≡◌, sym, ap, subst, ◌∙◌}
-use mathlib.Core.Option.{Option, none, some}
+use mathlib.Core.Option.{Option as Maybe, none, some}
 use mathlib.Core.List.{List}
 use native.Mathlib.Omega.{arith}
 use lib.ListN.{length, take, drop}
+use Rattle.std.specs.Prelude.{Some}
 use Rattle.signs.specs.Signs.{Got, read, outside, next, if_sign, skip, sign, name, bar_sign, and_sign, comma_sign, dot_sign}
 use Rattle.signs.specs.Finding.{Behind}
 use Rattle.signs.proofs.Blanks.{skip-again}
@@ -24,7 +25,7 @@ passed_next : {A B : Type 0} (g : Got A) (h : A → List ℕ → Got B) → ((a 
 passed_next (read a s) h f = f a s
 passed_next outside h f = tt
 
-passed_if : {A : Type 0} (o : Option (List ℕ)) (k : List ℕ → Got A) (z : Got A) → ((s : List ℕ) → Passed (k s)) → Passed z → Passed (if_sign o k z)
+passed_if : {A : Type 0} (o : Maybe (List ℕ)) (k : List ℕ → Got A) (z : Got A) → ((s : List ℕ) → Passed (k s)) → Passed z → Passed (if_sign o k z)
 passed_if (some s) k z f g = f s
 passed_if none k z f g = g
 
@@ -62,16 +63,16 @@ mutual
 
 -- the place behind a part, of a reader that leaves no blank
 module _ (text : List ℕ) (at : ℕ) (ns : List ℕ) (d k : ℕ) (b : List ℕ) (r : Reading) (m l : List ℕ) (g : ℕ → List ℕ → Got Tree) (lvl : ℕ) (h : (f : ℕ) (s : List ℕ) → Passed (g f s)) where
-  pub no_blank : ReadsRule g lvl text at ns d k b r m l → (r.count ≡ 0 → ⊥) → Behind text r.at r.at
-  no_blank x e =
+  pub no_blank : ReadsRule g lvl text at ns d k b (Some r) m l → Behind text r.at r.at
+  no_blank x =
       let f = suc (4 * (length text - at) + lvl) in
-      let u = took size (emit b k (take d ns)) text at k (g f (drop at text)) r m (x.reads f (omega arith)) e in
+      let u = took size (emit b k (take d ns)) text at k (g f (drop at text)) r m (x.reads f (omega arith)) in
       let p : skip u.1 ≡ u.1 = subst Passed u.2 (h f (drop at text)) in
       record { answer = ap skip (sym u.3.rest) ∙ (p ∙ u.3.rest); ahead = omega arith; inside = u.3.inside }
 
 module _ (text : List ℕ) (at : ℕ) (ns : List ℕ) (d k : ℕ) (b : List ℕ) (r : Reading) (m l : List ℕ) where
-  pub behind-and : ReadsRule read_and 2 text at ns d k b r m l → (r.count ≡ 0 → ⊥) → Behind text r.at r.at
+  pub behind-and : ReadsRule read_and 2 text at ns d k b (Some r) m l → Behind text r.at r.at
   behind-and = no_blank text at ns d k b r m l read_and 2 and_passed
 
-  pub behind_names : ReadsRule read_some 0 text at ns d k b r m l → (r.count ≡ 0 → ⊥) → Behind text r.at r.at
+  pub behind_names : ReadsRule read_some 0 text at ns d k b (Some r) m l → Behind text r.at r.at
   behind_names = no_blank text at ns d k b r m l read_some 0 some_passed

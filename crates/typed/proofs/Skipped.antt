@@ -4,6 +4,7 @@ use mathlib.Core.Path.{◌≡◌, refl, sym, subst, ap, ◌∙◌}
 use mathlib.Core.List.{List}
 use native.Mathlib.Omega.{arith}
 use lib.ListN.{length, take, drop}
+use Rattle.std.specs.Prelude.{Option}
 use Rattle.signs.specs.Signs.{Got, skip, behind, sign, name_from, name, not_sign, exist_sign, open_sign, same_sign}
 use Rattle.signs.proofs.Blanks.{skip-again}
 use Rattle.atoms.specs.Tree.{Tree, size}
@@ -38,7 +39,7 @@ unfolding read_or
 not_skip zero s = refl
 not_skip (suc f) s = rw (sign_skip not_sign s, sign_skip exist_sign s, operand_skip f s)
 
-pub not_skipped : (text : List ℕ) (at : ℕ) (ns : List ℕ) (d k : ℕ) (b : List ℕ) (p : ℕ) → Behind text at p → (r : Reading) (a l : List ℕ) → ReadsRule read_not 1 text p ns d k b r a l → ReadsRule read_not 1 text at ns d k b r a l
+pub not_skipped : (text : List ℕ) (at : ℕ) (ns : List ℕ) (d k : ℕ) (b : List ℕ) (p : ℕ) → Behind text at p → (r : Option Reading) (a l : List ℕ) → ReadsRule read_not 1 text p ns d k b r a l → ReadsRule read_not 1 text at ns d k b r a l
 not_skipped text at ns d k b p x r a l z = record { long = z.long; room = z.room; kept = z.kept; reads = go }
   where
     go : (f : ℕ) → 4 * (length text - at) + 1 < f → Reads size (emit b k (take d ns)) text at k (read_not f (drop at text)) r a

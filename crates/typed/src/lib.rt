@@ -11,32 +11,22 @@ use signs::skip;
 
 mod reader;
 
-// How many nodes a text takes; or the text is outside the grammar.
-#[derive(Clone, Copy)]
-pub enum Parsed {
-    Nodes(usize),
-    Outside,
-}
-
 // The most bytes of a text.
 pub const MAX_TEXT: usize = 4096;
 
-// The nodes of a whole text, in a table that has room for 64.
-pub fn parse(text: &[u8], table: &mut [usize]) -> Parsed
+// How many nodes a whole text takes, in a table that has room for 64; none where the text is outside the grammar.
+pub fn parse(text: &[u8], table: &mut [usize]) -> Option<usize>
     requires { 192 ≤ length table.old }
     ensures { Parses text.now table.old result table.new }
 {
     if MAX_TEXT < text.len() {
-        return Parsed::Outside;
+        return None;
     }
     let mut names = [0usize; 64];
-    let rule = or_rule(text, 0, &mut names, 0, 0, table);
-    if rule.count == 0 {
-        return Parsed::Outside;
-    }
+    let rule = or_rule(text, 0, &mut names, 0, 0, table)?;
     let end = skip(text, rule.at);
     if end < text.len() {
-        return Parsed::Outside;
+        return None;
     }
-    Parsed::Nodes(rule.count)
+    Some(rule.count)
 }

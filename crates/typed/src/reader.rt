@@ -15,7 +15,7 @@ use atoms::Reading;
 use atoms::atoms::atom;
 use atoms::names::enter;
 use atoms::nodes::{close_or, put, put_nots};
-use signs::{Found, Word, exist_sign, name, repeated, sign, skip};
+use signs::{exist_sign, name, repeated, sign, skip};
 
 // A whole rule: one or more ands, with bars between them.
 #[cycle(readers)]
@@ -26,18 +26,14 @@ pub fn or_rule(
     d: usize,
     k: usize,
     table: &mut [usize],
-) -> Reading
+) -> Option<Reading>
     requires { Begins text.now at names.old d k table.old }
     ensures { ReadsRule read_or 3 text.now at names.old d k table.old result table.new names.new }
 {
-    let first = and_rule(text, at, names, d, k, table);
-    if first.count == 0 {
-        return first;
+    let first = and_rule(text, at, names, d, k, table)?;
+    if sign(text, first.at, b'|').is_none() {
+        return Some(first);
     }
-    let bar = sign(text, first.at, 124);
-    let Found::At(p) = bar else {
-        return first;
-    };
     or_rest(text, first.at, names, d, first.count, table)
 }
 
@@ -50,22 +46,18 @@ fn or_rest(
     d: usize,
     k: usize,
     table: &mut [usize],
-) -> Reading
+) -> Option<Reading>
     requires { Begins text.now at names.old d k table.old × (1 ≤ k) }
     ensures { ReadsMore more_or or_size emit_ors text.now at names.old d k table.old result table.new names.new }
 {
-    let bar = sign(text, at, 124);
-    let Found::At(p) = bar else {
-        return Reading {
+    let Some(p) = sign(text, at, b'|') else {
+        return Some(Reading {
             at: skip(text, at),
             count: k,
-        };
+        });
     };
     put(table, k, 2, k - 1, 0);
-    let side = and_rule(text, p, names, d, k + 1, table);
-    if side.count == 0 {
-        return side;
-    }
+    let side = and_rule(text, p, names, d, k + 1, table)?;
     close_or(table, k, side.count);
     or_rest(text, side.at, names, d, side.count + 3, table)
 }
@@ -79,21 +71,17 @@ fn and_rule(
     d: usize,
     k: usize,
     table: &mut [usize],
-) -> Reading
+) -> Option<Reading>
     requires { Begins text.now at names.old d k table.old }
     ensures { ReadsRule read_and 2 text.now at names.old d k table.old result table.new names.new }
 {
-    let first = not_rule(text, at, names, d, k, table);
-    if first.count == 0 {
-        return first;
-    }
-    let mark = sign(text, first.at, 38);
-    let Found::At(p) = mark else {
-        return Reading {
+    let first = not_rule(text, at, names, d, k, table)?;
+    if sign(text, first.at, b'&').is_none() {
+        return Some(Reading {
             at: skip(text, first.at),
             count: first.count,
-        };
-    };
+        });
+    }
     and_rest(text, first.at, names, d, first.count, table)
 }
 
@@ -106,21 +94,17 @@ fn and_rest(
     d: usize,
     k: usize,
     table: &mut [usize],
-) -> Reading
+) -> Option<Reading>
     requires { Begins text.now at names.old d k table.old × (1 ≤ k) }
     ensures { ReadsMore more_and and_size emit_ands text.now at names.old d k table.old result table.new names.new }
 {
-    let mark = sign(text, at, 38);
-    let Found::At(p) = mark else {
-        return Reading {
+    let Some(p) = sign(text, at, b'&') else {
+        return Some(Reading {
             at: skip(text, at),
             count: k,
-        };
+        });
     };
-    let side = not_rule(text, p, names, d, k, table);
-    if side.count == 0 {
-        return side;
-    }
+    let side = not_rule(text, p, names, d, k, table)?;
     put(table, side.count, 1, k - 1, side.count - 1);
     and_rest(text, side.at, names, d, side.count + 1, table)
 }
@@ -134,21 +118,18 @@ fn not_rule(
     d: usize,
     k: usize,
     table: &mut [usize],
-) -> Reading
+) -> Option<Reading>
     requires { Begins text.now at names.old d k table.old }
     ensures { ReadsRule read_not 1 text.now at names.old d k table.old result table.new names.new }
 {
     let start = skip(text, at);
-    let marks = repeated(text, start, 33, 4097);
-    let inner = operand(text, marks.at, names, d, k, table);
-    if inner.count == 0 {
-        return inner;
-    }
+    let marks = repeated(text, start, b'!', 4097);
+    let inner = operand(text, marks.at, names, d, k, table)?;
     put_nots(table, inner.count, marks.count);
-    Reading {
+    Some(Reading {
         at: inner.at,
         count: inner.count + marks.count,
-    }
+    })
 }
 
 // Where no `!` is next: an "exist", a rule in brackets, or one without a rule inside.
@@ -160,22 +141,18 @@ fn operand(
     d: usize,
     k: usize,
     table: &mut [usize],
-) -> Reading
+) -> Option<Reading>
     requires { Begins text.now at names.old d k table.old × (sign_of not_sign (drop at text.now) ≡ none) }
     ensures { ReadsRule read_not 1 text.now at names.old d k table.old result table.new names.new }
 {
-    let opens = repeated(text, at, 40, 4097);
+    let opens = repeated(text, at, b'(', 4097);
     if opens.count == 0 {
-        let exist = exist_sign(text, at);
-        let Found::At(e) = exist else {
+        let Some(p) = exist_sign(text, at) else {
             return atom(text, at, &names[..d], k, table);
         };
-        return some_rule(text, e, names, d, k, table);
+        return some_rule(text, p, names, d, k, table);
     }
-    let inner = not_rule(text, opens.at, names, d, k, table);
-    if inner.count == 0 {
-        return inner;
-    }
+    let inner = not_rule(text, opens.at, names, d, k, table)?;
     closes(text, inner.at, names, d, inner.count, table, opens.count)
 }
 
@@ -189,31 +166,22 @@ fn closes(
     k: usize,
     table: &mut [usize],
     c: usize,
-) -> Reading
+) -> Option<Reading>
     requires { Begins text.now at names.old d k table.old × (1 ≤ k) }
     ensures { Closes text.now at names.old d k table.old c result table.new names.new }
 {
-    let shut = repeated(text, at, 41, c);
+    let shut = repeated(text, at, b')', c);
     let left = c - shut.count;
     if left == 0 {
-        return Reading {
+        return Some(Reading {
             at: shut.at,
             count: k,
-        };
+        });
     }
-    let ands = and_rest(text, shut.at, names, d, k, table);
-    if ands.count == 0 {
-        return ands;
-    }
-    let ors = or_rest(text, ands.at, names, d, ands.count, table);
-    if ors.count == 0 {
-        return ors;
-    }
-    let mark = sign(text, ors.at, 41);
-    let Found::At(e) = mark else {
-        return Reading { at: 0, count: 0 };
-    };
-    closes(text, e, names, d, ors.count, table, left - 1)
+    let ands = and_rest(text, shut.at, names, d, k, table)?;
+    let ors = or_rest(text, ands.at, names, d, ands.count, table)?;
+    let p = sign(text, ors.at, b')')?;
+    closes(text, p, names, d, ors.count, table, left - 1)
 }
 
 // Behind "exist" or a comma: a name, and what it is bound in.
@@ -225,24 +193,18 @@ fn some_rule(
     d: usize,
     k: usize,
     table: &mut [usize],
-) -> Reading
+) -> Option<Reading>
     requires { Begins text.now at names.old d k table.old }
     ensures { ReadsRule read_some 0 text.now at names.old d k table.old result table.new names.new }
 {
-    let first = name(text, at);
-    let Word::Word(x, p) = first else {
-        return Reading { at: 0, count: 0 };
-    };
-    let e = enter(names, d, x);
-    let body = some_body(text, p, names, e, k, table);
-    if body.count == 0 {
-        return body;
-    }
+    let bound = name(text, at)?;
+    let e = enter(names, d, bound.value);
+    let body = some_body(text, bound.at, names, e, k, table)?;
     put(table, body.count, 3, d, body.count - 1);
-    Reading {
+    Some(Reading {
         at: body.at,
         count: body.count + 1,
-    }
+    })
 }
 
 // Behind a name that is bound: further names, or the rule.
@@ -254,19 +216,15 @@ fn some_body(
     d: usize,
     k: usize,
     table: &mut [usize],
-) -> Reading
+) -> Option<Reading>
     requires { Begins text.now at names.old d k table.old }
     ensures { ReadsRule read_body 0 text.now at names.old d k table.old result table.new names.new }
 {
-    let comma = sign(text, at, 44);
-    let Found::At(p) = comma else {
-        let dot = sign(text, at, 46);
-        let Found::At(q) = dot else {
-            return Reading { at: 0, count: 0 };
-        };
-        return scope(text, q, names, d, k, table);
-    };
-    some_rule(text, p, names, d, k, table)
+    if let Some(p) = sign(text, at, b',') {
+        return some_rule(text, p, names, d, k, table);
+    }
+    let p = sign(text, at, b'.')?;
+    scope(text, p, names, d, k, table)
 }
 
 // What a name is bound in: a whole rule. An "exist" that is next is read at once.
@@ -278,29 +236,20 @@ fn scope(
     d: usize,
     k: usize,
     table: &mut [usize],
-) -> Reading
+) -> Option<Reading>
     requires { Begins text.now at names.old d k table.old }
     ensures { ReadsRule read_or 3 text.now at names.old d k table.old result table.new names.new }
 {
-    let exist = exist_sign(text, at);
-    let Found::At(e) = exist else {
+    let Some(p) = exist_sign(text, at) else {
         return or_rule(text, at, names, d, k, table);
     };
-    let inner = some_rule(text, e, names, d, k, table);
-    if inner.count == 0 {
-        return inner;
+    let inner = some_rule(text, p, names, d, k, table)?;
+    if sign(text, inner.at, b'&').is_some() {
+        let ands = and_rest(text, inner.at, names, d, inner.count, table)?;
+        return or_rest(text, ands.at, names, d, ands.count, table);
     }
-    let mark = sign(text, inner.at, 38);
-    let Found::At(p) = mark else {
-        let bar = sign(text, inner.at, 124);
-        let Found::At(q) = bar else {
-            return inner;
-        };
+    if sign(text, inner.at, b'|').is_some() {
         return or_rest(text, inner.at, names, d, inner.count, table);
-    };
-    let ands = and_rest(text, inner.at, names, d, inner.count, table);
-    if ands.count == 0 {
-        return ands;
     }
-    or_rest(text, ands.at, names, d, ands.count, table)
+    Some(inner)
 }

@@ -9,6 +9,7 @@ use lib.Dec.{ltb}
 use lib.ListN.{length, take, drop, replicate, length-replicate}
 use lib.Seq.{take_at, length-take-le}
 use borrow.Author.Tests.{lt-ltb, le-ltb, ltb-false}
+use Rattle.std.specs.Prelude.{Some, None}
 use Rattle.rules.specs.Formula.{Formula, no_scope, scoped, shallow}
 use Rattle.output.specs.Output.{Appends}
 use Rattle.output.proofs.Output.{appends_front, appends_same}
@@ -18,7 +19,6 @@ use Rattle.atoms.specs.Emit.{emit}
 use Rattle.typed.specs.Grammar.{read_or, wholly, whole, tree_of, read_text}
 use Rattle.typed_formula.specs.Meaning.{formula_for}
 use Rattle.typed.specs.Parsing.{ParseSays, Parses}
-use Rattle.typed.specs.declared.Parsed.{Parsed}
 use Rattle.typed_formula.proofs.FileSays.{Known}
 use Rattle.typed_formula.proofs.Relations.{Every, or_known}
 use Rattle.text_labels.specs.Pieces.{texts, good_labels?}
@@ -50,7 +50,7 @@ text_known text t e = go (ltb 4096 (length text)) e
     go false q = whole_known (read_or (4 * length text + 4) text) t (or_known (4 * length text + 4) text) q
 
 -- ── what the parser says ──
-no_tree : (o : Option Tree) (b a : List ℕ) → ParseSays o b Parsed.Outside a → o ≡ none
+no_tree : (o : Option Tree) (b a : List ℕ) → ParseSays o b None a → o ≡ none
 no_tree none b a x = refl
 no_tree (some t) b a x = absurd x
 
@@ -60,7 +60,7 @@ pub record HasTree (text b : List ℕ) (n : ℕ) (a : List ℕ) : Type 0 where
   pub count : n ≡ size tree
   pub table : a ≡ emit b 0 [] tree
 
-has-tree : (text b : List ℕ) (n : ℕ) (a : List ℕ) (o : Option Tree) → read_text text ≡ o → ParseSays o b (Parsed.Nodes n) a → HasTree text b n a
+has-tree : (text b : List ℕ) (n : ℕ) (a : List ℕ) (o : Option Tree) → read_text text ≡ o → ParseSays o b (Some n) a → HasTree text b n a
 has-tree text b n a none e x = absurd x
 has-tree text b n a (some t) e x = record { tree = t; reads = e; count = x.0; table = x.1 }
 
@@ -95,74 +95,72 @@ module _ (text before : List ℕ) where
     unfolding typed_answer
     asked x o e q = q ∙ (ap (answer_of text) (sym e) ∙ sym (simp (le-ltb (length before) 599 h)))
 
-    module _ (r : Parsed) (a : List ℕ) (x : Parses text (replicate 192 0) r a) where
-      pub answer_outside : r ≡ Parsed.Outside → ReadsText text before (Written.Refused 25) before
-      answer_outside e =
-          let s : ParseSays (read_text text) (replicate 192 0) Parsed.Outside a = subst (λ (y : Parsed). ParseSays (read_text text) (replicate 192 0) y a) e x.says in
-          no_file 25 (asked (Written.Refused 25) none (no_tree (read_text text) (replicate 192 0) a s) refl)
+    pub answer_outside : (a : List ℕ) → Parses text (replicate 192 0) None a → ReadsText text before (Written.Refused 25) before
+    answer_outside a x =
+        no_file 25 (asked (Written.Refused 25) none (no_tree (read_text text) (replicate 192 0) a x.says) refl)
 
-      module _ (n : ℕ) (e : r ≡ Parsed.Nodes n) where
-        there : HasTree text (replicate 192 0) n a
-        there = has-tree text (replicate 192 0) n a (read_text text) refl (subst (λ (y : Parsed). ParseSays (read_text text) (replicate 192 0) y a) e x.says)
+    module _ (n : ℕ) (a : List ℕ) (x : Parses text (replicate 192 0) (Some n) a) where
+      there : HasTree text (replicate 192 0) n a
+      there = has-tree text (replicate 192 0) n a (read_text text) refl x.says
 
-        known : Known there.tree
-        known = text_known text there.tree there.reads
+      known : Known there.tree
+      known = text_known text there.tree there.reads
 
-        full : 192 ≤ length {A = ℕ} (replicate 192 0)
-        full = omega (arith, length-replicate {A = ℕ} 192 0)
+      full : 192 ≤ length {A = ℕ} (replicate 192 0)
+      full = omega (arith, length-replicate {A = ℕ} 192 0)
 
-        module _ (p₀ p₁ : List ℕ) (d : Decision) (y : Decides text a n p₀ p₁ d) where
-          judged_is : d ≡ judged (size there.tree) (formula_for text [] there.tree)
-          judged_is = y.answer ∙ (ap₂ (decided text) there.table there.count ∙ decided-judged text (replicate 192 0) there.tree known full)
+      module _ (p₀ p₁ : List ℕ) (d : Decision) (y : Decides text a n p₀ p₁ d) where
+        judged_is : d ≡ judged (size there.tree) (formula_for text [] there.tree)
+        judged_is = y.answer ∙ (ap₂ (decided text) there.table there.count ∙ decided-judged text (replicate 192 0) there.tree known full)
 
-          pub answer_refused : (k : ℕ) → d ≡ Decision.Refused k → ReadsText text before (Written.Refused k) before
-          answer_refused k q =
+        pub answer_refused : (k : ℕ) → d ≡ Decision.Refused k → ReadsText text before (Written.Refused k) before
+        answer_refused k q =
+            let t = there.tree in
+            let g : judged (size t) (formula_for text [] t) ≡ Decision.Refused k = sym judged_is ∙ q in
+            no_file k (asked (Written.Refused k) (some t) there.reads (sym (ap (λ (z : Decision). or_refused z (length (file_of text t))) g)))
+
+        module _ (m : ℕ) (q : d ≡ Decision.Labels m) where
+          pass : Passed (size there.tree) (formula_for text [] there.tree)
+          pass = passed (size there.tree) (formula_for text [] there.tree) m (sym judged_is ∙ q)
+
+          labels_are : texts text (take m p₁) ≡ labels_of (formula_for text [] there.tree)
+          labels_are =
+              ap (texts text) ((y.places m q).0 ∙ ap₂ (places_in text) there.table there.count)
+              ∙ table_labels text (replicate 192 0) there.tree known full pass.nodes
+
+          pub places_inside : m ≤ length p₁
+          places_inside = (y.places m q).2
+
+          pub places_count : m ≡ length (take m p₁)
+          places_count = sym (length-take-le m p₁ (y.places m q).2)
+
+          pub answer_fits : Fit text a n (take m p₁)
+          answer_fits =
+              subst (λ (z : List ℕ). Fit text z n (take m p₁)) (sym there.table)
+              (subst (λ (z : ℕ). Fit text (emit (replicate 192 0) 0 [] there.tree) z (take m p₁)) (sym there.count)
+              (file_fits text (replicate 192 0) full there.tree known pass (take m p₁) labels_are))
+
+          pub answer_written : (after : List ℕ) (z : ℕ) → Appends before 0 (file_from text a n (texts text (take m p₁))) after z → ReadsText text before (Written.Length z) after
+          unfolding file_of
+          answer_written after z w =
               let t = there.tree in
-              let g : judged (size t) (formula_for text [] t) ≡ Decision.Refused k = sym judged_is ∙ q in
-              no_file k (asked (Written.Refused k) (some t) there.reads (sym (ap (λ (z : Decision). or_refused z (length (file_of text t))) g)))
-
-          module _ (m : ℕ) (q : d ≡ Decision.Labels m) where
-            pass : Passed (size there.tree) (formula_for text [] there.tree)
-            pass = passed (size there.tree) (formula_for text [] there.tree) m (sym judged_is ∙ q)
-
-            labels_are : texts text (take m p₁) ≡ labels_of (formula_for text [] there.tree)
-            labels_are =
-                ap (texts text) ((y.places m q).0 ∙ ap₂ (places_in text) there.table there.count)
-                ∙ table_labels text (replicate 192 0) there.tree known full pass.nodes
-
-            pub places_inside : m ≤ length p₁
-            places_inside = (y.places m q).2
-
-            pub places_count : m ≡ length (take m p₁)
-            places_count = sym (length-take-le m p₁ (y.places m q).2)
-
-            pub answer_fits : Fit text a n (take m p₁)
-            answer_fits =
-                subst (λ (z : List ℕ). Fit text z n (take m p₁)) (sym there.table)
-                (subst (λ (z : ℕ). Fit text (emit (replicate 192 0) 0 [] there.tree) z (take m p₁)) (sym there.count)
-                (file_fits text (replicate 192 0) full there.tree known pass (take m p₁) labels_are))
-
-            pub answer_written : (after : List ℕ) (z : ℕ) → Appends before 0 (file_from text a n (texts text (take m p₁))) after z → ReadsText text before (Written.Length z) after
-            unfolding file_of
-            answer_written after z w =
-                let t = there.tree in
-                let file = file_of text t in
-                let same-file : file_from text a n (texts text (take m p₁)) ≡ file =
-                ap₂ (λ (i : List ℕ) (j : ℕ). file_from text i j (texts text (take m p₁))) there.table there.count ∙ ap (file_from text (emit (replicate 192 0) 0 [] t) (size t)) labels_are in
-                let v : Appends before 0 file after z = appends_same before after _ _ 0 z same-file w in
-                let long : length file ≡ z = omega (arith, v.end) in
-                let left : after ≡ file ++ drop z before = appends_front before after file z v ∙ ap (λ (i : ℕ). file ++ drop i before) long in
-                let g : judged (size t) (formula_for text [] t) ≡ Decision.Labels m = sym judged_is ∙ q in
-                record {
-                  answer = asked (Written.Length z) (some t) there.reads (ap Written.Length (sym long) ∙ sym (ap (λ (i : Decision). or_refused i (length file)) g));
-                  left = left ∙ ap (λ (o : Option Tree). bytes_of text o ++ drop z before) (sym there.reads);
-                  written = λ i u. (let zi : z ≡ i = cc in record {
-                    tree = t;
-                    reads = there.reads;
-                    bytes = ap₂ take (sym zi) left ∙ take_at file (drop z before) z long;
-                    rule = rule text (replicate 192 0) full t known pass;
-                    taken = file-taken text (replicate 192 0) full t known pass;
-                    formula = file-formula text (replicate 192 0) full t known pass;
-                  });
-                  few = λ i u. (let zi : z ≡ i = cc in omega (arith, long, (file-taken text (replicate 192 0) full t known pass).size));
-                }
+              let file = file_of text t in
+              let same-file : file_from text a n (texts text (take m p₁)) ≡ file =
+              ap₂ (λ (i : List ℕ) (j : ℕ). file_from text i j (texts text (take m p₁))) there.table there.count ∙ ap (file_from text (emit (replicate 192 0) 0 [] t) (size t)) labels_are in
+              let v : Appends before 0 file after z = appends_same before after _ _ 0 z same-file w in
+              let long : length file ≡ z = omega (arith, v.end) in
+              let left : after ≡ file ++ drop z before = appends_front before after file z v ∙ ap (λ (i : ℕ). file ++ drop i before) long in
+              let g : judged (size t) (formula_for text [] t) ≡ Decision.Labels m = sym judged_is ∙ q in
+              record {
+                answer = asked (Written.Length z) (some t) there.reads (ap Written.Length (sym long) ∙ sym (ap (λ (i : Decision). or_refused i (length file)) g));
+                left = left ∙ ap (λ (o : Option Tree). bytes_of text o ++ drop z before) (sym there.reads);
+                written = λ i u. (let zi : z ≡ i = cc in record {
+                  tree = t;
+                  reads = there.reads;
+                  bytes = ap₂ take (sym zi) left ∙ take_at file (drop z before) z long;
+                  rule = rule text (replicate 192 0) full t known pass;
+                  taken = file-taken text (replicate 192 0) full t known pass;
+                  formula = file-formula text (replicate 192 0) full t known pass;
+                });
+                few = λ i u. (let zi : z ≡ i = cc in omega (arith, long, (file-taken text (replicate 192 0) full t known pass).size));
+              }

@@ -22,8 +22,7 @@ pub fn rule_from_text(text: &[u8], out: &mut [u8]) -> Written
         return Written::Refused(20);
     }
     let mut table = [0usize; 192];
-    let parsed = typed::parse(text, &mut table[..]);
-    let typed::Parsed::Nodes(n) = parsed else {
+    let Some(n) = typed::parse(text, &mut table[..]) else {
         return Written::Refused(25);
     };
     let mut places = [0usize; 64];

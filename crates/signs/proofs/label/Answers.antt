@@ -1,16 +1,12 @@
 -- A quote, and the next one behind it.
-use Rattle.signs.proofs.Told.{found_sign}
 use Rattle.signs.proofs.Quotes.{label_none, label_open, label_read}
 use Rattle.signs.proofs.label.Goals as goal
 
-pub returns-in_default : goal.returns-in_default
-returns-in_default c = search label_none
+pub returns-in_err-open : goal.returns-in_err-open
+returns-in_err-open c = rw c.from_residual.ensures (label_none _ _ c.in_err-open.ensures)
 
-pub returns-in_default-shut : goal.returns-in_default-shut
-returns-in_default-shut c = search label_open
-
-pub overflow_sub-result : goal.overflow_sub-result
-overflow_sub-result c = (found_sign _ _ _ _ _ c.sign-open.ensures c.in-At.is).2
+pub returns-in_err-at : goal.returns-in_err-at
+returns-in_err-at c = rw c.from_residual-in_err-at.ensures (label_open _ _ _ c.in_ok-open.ensures c.in_err-at.ensures)
 
 pub returns : goal.returns
-returns c = search label_read
+returns c = label_read _ _ _ c.in_ok-open.ensures _ c.in_ok-at.ensures

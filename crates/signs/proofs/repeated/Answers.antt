@@ -11,7 +11,7 @@ pub returns-in_default : goal.returns-in_default
 returns-in_default c = search (rules, run_ended)
 
 pub loop-n-preserved : goal.loop-n-preserved
-loop-n-preserved c = (search marked_more, (found_sign _ _ _ _ _ c.sign-mark.ensures c.in-At.is).2)
+loop-n-preserved c = (marked_more _ _ _ _ _ c.loop-n.invariant.0 _ c.in-Some.ensures, (found_sign _ _ _ _ c.in-Some.ensures).2)
 
 pub returns : goal.returns
 returns c = search (rules, run_full)

@@ -1,34 +1,15 @@
 -- `same`, or a name and what stands behind it.
 use Rattle.atoms.proofs.Leaves.{atom_same, atom_pair, atom_has, atom_none}
-use Rattle.atoms.proofs.Places.{ready_at}
-use mathlib.Core.Path.{refl}
-use native.Mathlib.Omega.{arith}
-use Rattle.signs.proofs.Told.{found_sign, found_word}
 use Rattle.atoms.proofs.atoms.atom.Goals as goal
 
-pub returns-in_default-first : goal.returns-in_default-first
-returns-in_default-first c = search atom_none
+pub returns-in-Some : goal.returns-in-Some
+returns-in-Some c = atom_same _ _ _ _ _ _ _ _ c.in-Some.ensures c.same_atom.ensures
 
-pub sign-open-requires : goal.sign-open-requires
-sign-open-requires c = (found_word _ _ _ _ _ _ c.name-first.ensures c.in-Word.is).2
+pub returns-in_err-first : goal.returns-in_err-first
+returns-in_err-first c = rw c.from_residual.ensures (atom_none _ _ _ _ _ c.in_default.ensures c.in_err-first.ensures)
 
-pub pair_atom-requires : goal.pair_atom-requires
-pair_atom-requires c = let y = c.requires in let g = found_word _ _ _ _ _ _ c.name-first.ensures c.in-Word.is in
-    ready_at _ _ _ _ _ y _ _ _ g.2 (omega (arith, y.few, g.1)) refl
-
-pub returns-in_default-open : goal.returns-in_default-open
-returns-in_default-open c = search atom_pair
-
-pub has_atom-requires : goal.has_atom-requires
-has_atom-requires c = let y = c.requires in let g = found_word _ _ _ _ _ _ c.name-first.ensures c.in-Word.is in let h = found_sign _ _ _ _ _ c.sign-open.ensures c.in-At-open.is in
-    ready_at _ _ _ _ _ y _ _ _ h.2 (omega (arith, y.few, g.1, h.1)) refl
-
-pub returns-in_default : goal.returns-in_default
-returns-in_default c = search atom_has
-
-pub same_atom-requires : goal.same_atom-requires
-same_atom-requires c = let y = c.requires in let h = found_sign _ _ _ _ _ c.same_sign-same.ensures c.in-At.is in
-    ready_at _ _ _ _ _ y _ _ _ h.2 (omega (arith, y.few, h.1)) refl
+pub returns-in-Some-sign : goal.returns-in-Some-sign
+returns-in-Some-sign c = atom_has _ _ _ _ _ c.in_default.ensures _ c.in_ok-first.ensures _ _ _ c.in-Some-sign.ensures c.has_atom.ensures
 
 pub returns : goal.returns
-returns c = search atom_same
+returns c = atom_pair _ _ _ _ _ c.in_default.ensures _ c.in_ok-first.ensures _ _ c.in_default-sign.ensures c.pair_atom.ensures

@@ -1,16 +1,12 @@
 -- A label and the bracket behind it.
 use Rattle.atoms.proofs.Leaves.{has_none, has_open, has_read}
-use Rattle.signs.proofs.Told.{found_word}
 use Rattle.atoms.proofs.atoms.has_atom.Goals as goal
 
-pub returns-in_default : goal.returns-in_default
-returns-in_default c = search has_none
+pub returns-in_err-quoted : goal.returns-in_err-quoted
+returns-in_err-quoted c = rw c.from_residual.ensures (has_none _ _ _ _ _ _ c.in_err-quoted.ensures)
 
-pub sign-shut-requires : goal.sign-shut-requires
-sign-shut-requires c = (found_word _ _ _ _ _ _ c.label-quoted.ensures c.in-Word.is).2
-
-pub returns-in_default-shut : goal.returns-in_default-shut
-returns-in_default-shut c = search has_open
+pub returns-in_err-end : goal.returns-in_err-end
+returns-in_err-end c = rw c.from_residual-in_err-end.ensures (has_open _ _ _ _ _ _ _ c.in_ok-quoted.ensures c.in_err-end.ensures)
 
 pub returns : goal.returns
-returns c = search has_read
+returns c = has_read _ _ _ _ _ _ _ c.in_ok-quoted.ensures _ c.in_ok-end.ensures _ c.level.ensures _ c.put.ensures

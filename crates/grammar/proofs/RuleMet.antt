@@ -15,8 +15,9 @@ use Rattle.labels.specs.Label.{capital, capitals, label_form?}
 use Rattle.rules.specs.Labels.{listed}
 use Rattle.rules.specs.Table.{fields_ok}
 use Rattle.rules.specs.Rules.{rule_of}
+use Rattle.rules.proofs.Parts.{one_number, taken_or_refused}
 use Rattle.rules.specs.declared.Node.{Node}
-use Rattle.rules.specs.declared.RuleRead.TheVariants as RuleRead
+use Rattle.refusals.specs.Refusal.{RefusedWith}
 use Rattle.grammar.specs.Written.{IsLabel}
 use Rattle.grammar.specs.Naming.{node_of}
 use Rattle.grammar.specs.Layout.{front, labels_part, nodes_part, InRange, UpToLabel, UpToNode}
@@ -24,7 +25,7 @@ use Rattle.grammar.specs.MetRule.{zero as zero-length, above, wrong, twice, none
 use Rattle.grammar.proofs.Written.{form_is_label, no_form_wrong}
 use Rattle.grammar.proofs.LayoutLaws.{labels_more, more-length, more-each, right_more, nodes_more, range_ok, ok_range}
 use Rattle.grammar.proofs.ReadParts.{listed_yes, listed_at, labels_to}
-use Rattle.grammar.proofs.RuleRefused.{met_refused, once, closed, flat, once-says, not_once-says, closed_says, unbound-says, nested-says, table_taken}
+use Rattle.grammar.proofs.RuleRefused.{met_refused, once, closed, flat, once-says, not_once-says, closed_says, unbound-says, nested-says, rule, table_taken}
 
 -- ── the layout, one part further ──
 -- what follows s joins it
@@ -170,12 +171,9 @@ settled (a ∷ b ∷ c ∷ rest) =
     (λ s. met 2 (mark (a ∷ b ∷ c ∷ []) rest refl refl (λ e. no_both (sym (ap (λ (m : List ℕ). same? m (bytes "RUL")) e) ∙ s)) refl))
 
 -- THE LAW: a rule file is refused with c exactly if it meets c.
-pub rule_met : (file : List ℕ) (c : ℕ) → (rule_of file ≡ RuleRead.Refused c) ↔ MetRule file c
+pub rule_met : (file : List ℕ) (c : ℕ) → RefusedWith c (rule_of file) ↔ MetRule file c
 rule_met file c = (λ e. go (settled file) e, met_refused file c)
   where
-    same_number_lem : (d : ℕ) → RuleRead.Refused d ≡ RuleRead.Refused c → d ≡ c
-    same_number_lem d e = cc
-
-    go : MetOrTaken file → rule_of file ≡ RuleRead.Refused c → MetRule file c
-    go (met d m) e = subst (MetRule file) (same_number_lem d (sym (met_refused file d m) ∙ e)) m
-    go (taken ls xs u a b d) e = absurd (let f = sym (table_taken u a b d) ∙ e in let z : ◌≡◌ {A = ℕ} 0 1 = cc in omega arith)
+    go : MetOrTaken file → RefusedWith c (rule_of file) → MetRule file c
+    go (met d m) e = subst (MetRule file) (one_number (rule_of file) d c (met_refused file d m) e) m
+    go (taken ls xs u a b d) e = taken_or_refused (rule_of file) (rule u) c (table_taken u a b d) e

@@ -18,11 +18,11 @@ use Rattle.rules.specs.Checks.{named_once, root_formula, whole_table}
 use Rattle.rules.specs.Rules.{rule_of}
 use Rattle.rules.specs.declared.Node.{Node}
 use Rattle.rules.specs.declared.Rule.{Rule}
-use Rattle.refusals.specs.Refusal.{number}
+use Rattle.refusals.specs.Refusal.{number, RefusedWith}
 use Rattle.std.specs.Prelude.{Ok, Err}
 use Rattle.refusals.specs.declared.Refusal.{Refusal}
-use Rattle.refusals.specs.declared.Refusal.TheVariants.{RuleEndsEarly, RuleMark, RuleVersion, RuleCount, RuleLabel, RuleNode}
-use Rattle.rules.specs.declared.RuleRead.{RuleRead}
+use Rattle.std.specs.Prelude.{Result}
+use Rattle.refusals.specs.declared.Refusal.TheVariants.{RuleEndsEarly, RuleMark, RuleVersion, RuleCount, RuleLabel, RuleNode, RuleTooLong, RuleNotATree, RuleUnbound, RuleTooDeep}
 use Rattle.rules.proofs.Parts.{mark_short, mark_r, mark_u, mark_l, version-short, version_bad, labels_short, labels_many, head_mark, head_version, head_count, count_short, count_none, count_many, count_ok}
 use Rattle.rules.proofs.Labels.{labels_stop}
 use Rattle.rules.proofs.Nodes.{nodes_stop}
@@ -37,7 +37,10 @@ use Rattle.grammar.proofs.ReadParts.{byte_of, mark_read, version_read, front_cou
 
 -- the file is refused with c
 abbrev Refuses : List ℕ → ℕ → Type 0
-Refuses file c = rule_of file ≡ RuleRead.Refused c
+Refuses file c = RefusedWith c (rule_of file)
+
+refused_by : {r : Result Rule Refusal} (e : Refusal) → Err e ≡ r → RefusedWith (number e) r
+refused_by e h = (e, (sym h, refl))
 
 none_left : (l : List ℕ) → length l ≡ 0 → l ≡ []
 none_left [] e = refl
@@ -46,7 +49,7 @@ none_left (x ∷ l) e = absurd (omega arith)
 -- ── the front ──
 module _ (file : List ℕ) where
   head_refuses : (e : Refusal) → Err e ≡ read_head file → Refuses file (number e)
-  head_refuses e h = sym (rule_head file (Err e) h e refl)
+  head_refuses e h = refused_by e (rule_head file (Err e) h e refl)
 
   mark_refuses : (e : Refusal) → Err e ≡ read_mark file → Refuses file (number e)
   mark_refuses e h = head_refuses e (head_mark file (Err e) e h refl)
@@ -87,7 +90,7 @@ module _ {file : List ℕ} {k : ℕ} {ls : List (List ℕ)} {rest : List ℕ} (u
 
   label_refuses : (e : Refusal) (p : ℕ) → LabelsTo file ls p rest → length ls < k → Err e ≡ read_label file (length ls) p → Refuses file (number e)
   label_refuses e p t h f =
-      sym (rule_labels file (Ok 6) head 6 refl (Err e) (labels_stop file (length ls) p _ t.read f e (label_count file) refl (omega (arith, counted))) e refl)
+      refused_by e (rule_labels file (Ok 6) head 6 refl (Err e) (labels_stop file (length ls) p _ t.read f e (label_count file) refl (omega (arith, counted))) e refl)
 
 -- ── the node count ──
 -- A fault at the byte behind all labels refuses the file.
@@ -96,7 +99,7 @@ module _ {file : List ℕ} {ls : List (List ℕ)} {rest : List ℕ} (u : UpToLab
   listing = sym (ap (read_labels file) (counted u) ∙ t.read)
 
   number-refuses : (e : Refusal) → Err e ≡ read_node_count file p → Refuses file (number e)
-  number-refuses e f = sym (rule_count file (Ok 6) (head u) 6 refl (Ok p) listing p refl (Err e) f e refl)
+  number-refuses e f = refused_by e (rule_count file (Ok 6) (head u) 6 refl (Ok p) listing p refl (Err e) f e refl)
 
 -- ── the nodes ──
 -- A fault at the node behind xs refuses the file, and so do bytes behind the last one.
@@ -130,7 +133,7 @@ module _ {file : List ℕ} {ls : List (List ℕ)} {n : ℕ} {xs : List Node} {re
 
   node_refuses : (e : Refusal) → length xs < n → Err e ≡ read_node file (place + 1) (length xs) → Refuses file (number e)
   node_refuses e h f =
-      sym (rule_nodes file (Ok 6) (head up_to_count) 6 refl (Ok place) (listing up_to_count listed_to) place refl (Ok (place + 1)) numbered (place + 1) refl (Err e)
+      refused_by e (rule_nodes file (Ok 6) (head up_to_count) 6 refl (Ok place) (listing up_to_count listed_to) place refl (Ok (place + 1)) numbered (place + 1) refl (Err e)
       (nodes_stop file (place + 1) (length xs) _ _ (nodes_are_read nodes (length xs) (omega arith)) f e (byte file place) refl (omega (arith, count_is))) e refl)
 
   -- the place behind the last node
@@ -148,12 +151,12 @@ module _ {file : List ℕ} {ls : List (List ℕ)} {n : ℕ} {xs : List Node} {re
 
     more-refuses : rest ≢ [] → Refuses file 7
     more-refuses m =
-        sym (rule_more file (Ok 6) (head up_to_count) 6 refl (Ok place) (listing up_to_count listed_to) place refl (Ok (place + 1)) numbered (place + 1) refl (Ok end) whole end refl
+        refused_by RuleTooLong (rule_more file (Ok 6) (head up_to_count) 6 refl (Ok place) (listing up_to_count listed_to) place refl (Ok (place + 1)) numbered (place + 1) refl (Ok end) whole end refl
         (λ e. m (none_left rest (omega (arith, after)))))
 
 -- ── the whole table ──
 module _ {file : List ℕ} {ls : List (List ℕ)} {xs : List Node} (u : UpToNode file ls (length xs) xs []) where
-  table_is : (y : RuleRead) → y ≡ whole_table file (place u + 1) (length xs) → rule_of file ≡ y
+  table_is : (y : Result Rule Refusal) → y ≡ whole_table file (place u + 1) (length xs) → rule_of file ≡ y
   table_is y e =
       sym (rule_whole file (Ok 6) (head (up_to_count u)) 6 refl (Ok (place u)) (listing (up_to_count u) (listed_to u)) (place u) refl (Ok (place u + 1)) (numbered u) (place u + 1) refl
       (Ok (end u refl)) (whole u refl) (end u refl) refl y (omega (arith, after u refl)) (e ∙ ap (whole_table file (place u + 1)) (sym (count_is u))))
@@ -187,23 +190,23 @@ module _ {file : List ℕ} {ls : List (List ℕ)} {xs : List Node} (u : UpToNode
   -- and what each makes of the file
   once-refuses : once ≡ false → Refuses file 8
   unfolding whole_table
-  once-refuses a = table_is (RuleRead.Refused 8) (rw a refl)
+  once-refuses a = refused_by RuleNotATree (sym (table_is (Err RuleNotATree) (rw a refl)))
 
   unbound-refuses : once ≡ true → closed ≡ false → Refuses file 9
   unfolding whole_table
-  unbound-refuses a b = table_is (RuleRead.Refused 9) (rw (a, b) refl)
+  unbound-refuses a b = refused_by RuleUnbound (sym (table_is (Err RuleUnbound) (rw (a, b) refl)))
 
   nested-refuses : once ≡ true → closed ≡ true → flat ≡ false → Refuses file 10
   unfolding whole_table
-  nested-refuses a b d = table_is (RuleRead.Refused 10) (rw (a, b, d) refl)
+  nested-refuses a b d = refused_by RuleTooDeep (sym (table_is (Err RuleTooDeep) (rw (a, b, d) refl)))
 
   -- the rule of a file that none of them refuses
   abbrev pub rule : Rule
   rule = record { labels = label_count file; nodes = place u + 1; count = length xs }
 
-  pub table_taken : once ≡ true → closed ≡ true → flat ≡ true → rule_of file ≡ RuleRead.Rule rule
+  pub table_taken : once ≡ true → closed ≡ true → flat ≡ true → rule_of file ≡ Ok rule
   unfolding whole_table
-  table_taken a b d = table_is (RuleRead.Rule rule) (rw (a, b, d) refl)
+  table_taken a b d = table_is (Ok rule) (rw (a, b, d) refl)
 
 -- ── a file that meets a refusal is refused with it ──
 module _ {file : List ℕ} {k : ℕ} {ls : List (List ℕ)} (l rest : List ℕ) (u : UpToLabel file k ls (length l ∷ (l ++ rest))) (h : length ls < k) (low : 1 ≤ length l) (high : length l ≤ 24) where
@@ -237,7 +240,7 @@ pub met_refused : (file : List ℕ) (c : ℕ) → MetRule file c → Refuses fil
 met_refused file c m = go m
   where
     says : (d : ℕ) → Refuses file d → c ≡ d → Refuses file c
-    says d r e = r ∙ ap RuleRead.Refused (sym e)
+    says d r e = (r.0, (r.1.0, r.1.1 ∙ sym e))
 
     go : MetRule file c → Refuses file c
     go (mark_cut h e) = says 1 (mark_refuses file RuleEndsEarly (mark_short file h)) e

@@ -13,9 +13,10 @@ use Rattle.rules.specs.Formula.{Pairing, before, overlaps, includes, same, Formu
 use Rattle.rules.specs.Labels.{label_bytes}
 use Rattle.rules.specs.Table.{pairing_of, node_at, formula_at}
 use Rattle.rules.specs.Rules.{rule_of, formula_of}
+use Rattle.rules.proofs.Parts.{ok_inj, taken_or_refused}
 use Rattle.rules.specs.declared.Node.{Node}
 use Rattle.rules.specs.declared.Rule.{Rule}
-use Rattle.rules.specs.declared.RuleRead.TheVariants as RuleRead
+use Rattle.std.specs.Prelude.{Ok}
 use Rattle.grammar.specs.Naming.{node_of}
 use Rattle.grammar.specs.Layout.{InRange, and, not, some, has_label, between, RightNodes, UpToNode}
 use Rattle.grammar.specs.Stands.{Stands, RuleFile}
@@ -106,15 +107,12 @@ module _ {file : List ℕ} {ls : List (List ℕ)} {xs : List Node} (u : UpToNode
   root_for : (f : Formula) → Stands ls xs (length xs - 1) f → formula_of file (rule u) ≡ f
   root_for = stands_for_lem file (place u + 1) ls xs (nodes u).agree u.nodes (listed_to u).bytes (length xs - 1)
 
-same_rule : (x y : Rule) → RuleRead.Rule x ≡ RuleRead.Rule y → x ≡ y
-same_rule x y e = cc
-
 -- THE LAW: a file that is taken is a rule file, and its formula is the one that its root stands for.
-pub rule_says : (file : List ℕ) (x : Rule) → rule_of file ≡ RuleRead.Rule x → RuleFile file (formula_of file x)
+pub rule_says : (file : List ℕ) (x : Rule) → rule_of file ≡ Ok x → RuleFile file (formula_of file x)
 rule_says file x e = go (settled file)
   where
     go : MetOrTaken file → RuleFile file (formula_of file x)
-    go (met c m) = absurd (let f = sym (met_refused file c m) ∙ e in let z : ◌≡◌ {A = ℕ} 0 1 = cc in omega arith)
+    go (met c m) = taken_or_refused (rule_of file) x c e (met_refused file c m)
     go (taken ls xs u a b d) =
         let o = (once-says u).0 a in
         record {
@@ -125,11 +123,11 @@ rule_says file x e = go (settled file)
           bound = (closed_says u o).0 b;
           shallow = λ five. no_both (sym d ∙ (nested-says u o).1 five);
           tree = one_tree (length ls) xs u.nodes o;
-          root = subst (λ (y : Rule). Stands ls xs (length xs - 1) (formula_of file y)) (same_rule (rule u) x (sym (table_taken u a b d) ∙ e)) (root_stands u);
+          root = subst (λ (y : Rule). Stands ls xs (length xs - 1) (formula_of file y)) (ok_inj (rule u) x (sym (table_taken u a b d) ∙ e)) (root_stands u);
         }
 
 -- and the other way: a rule file is taken, with the formula that its root stands for
-pub rule_file-taken : (file : List ℕ) (f : Formula) → RuleFile file f → (x : Rule) × (rule_of file ≡ RuleRead.Rule x) × (formula_of file x ≡ f)
+pub rule_file-taken : (file : List ℕ) (f : Formula) → RuleFile file f → (x : Rule) × (rule_of file ≡ Ok x) × (formula_of file x ≡ f)
 rule_file-taken file f r =
     let u = r.whole in
     let o = r.once in
@@ -141,4 +139,4 @@ pub one_formula : (file : List ℕ) (f g : Formula) → RuleFile file f → Rule
 one_formula file f g r s =
     let v = rule_file-taken file f r in
     let w = rule_file-taken file g s in
-    sym v.2 ∙ (ap (formula_of file) (same_rule v.0 w.0 (sym v.1 ∙ w.1)) ∙ w.2)
+    sym v.2 ∙ (ap (formula_of file) (ok_inj v.0 w.0 (sym v.1 ∙ w.1)) ∙ w.2)

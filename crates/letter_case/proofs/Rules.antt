@@ -18,13 +18,13 @@ use Rattle.rules.specs.Parts.{byte, part, read_mark, read_version, label_count, 
 use Rattle.rules.specs.Labels.{label_start, label_from, label_bytes, listed, read_label, read_labels}
 use Rattle.rules.specs.Table.{Op, op_and, op_not, op_some, op_has, op_none, op_pair, op_of, node_at, fields_ok, read_nodes, shape, formula_from, tree, formula_at}
 use Rattle.rules.specs.Checks.{node_names, times_named, once_below, unless, whole_table}
-use Rattle.rules.specs.Rules.{refused, rule_of, formula_of}
+use Rattle.rules.specs.Rules.{rule_of, formula_of}
 use Rattle.rules.specs.declared.Node.{Node}
 use Rattle.std.specs.Prelude.{Err}
 use Rattle.refusals.specs.declared.Refusal.{Refusal}
-use Rattle.refusals.specs.declared.Refusal.TheVariants.{RuleMark, RuleVersion, RuleCount, RuleLabel, RuleNode}
+use Rattle.std.specs.Prelude.{Ok}
+use Rattle.refusals.specs.declared.Refusal.TheVariants.{RuleMark, RuleVersion, RuleCount, RuleLabel, RuleNode, RuleNotATree, RuleUnbound, RuleTooDeep}
 use Rattle.rules.specs.declared.Rule.{Rule}
-use Rattle.rules.specs.declared.RuleRead.{RuleRead}
 use Rattle.rules.proofs.Parts.{then_same, count_read}
 use Rattle.rules.proofs.Labels.{place_below, place_high, labels_read}
 use Rattle.rules.proofs.Rules.{rule_taken}
@@ -107,7 +107,7 @@ module _ (file file' : List ℕ) (r : RecasedRule file file') where
   unfolding read_label
   label_same n p e =
       let t : label_from file p ≡ label_from file' p = from_same p e in
-      then_same Err _ _ _ _
+      then_same _ _ _ _
       (part_same p 1 1 _ _ RuleLabel refl (ap label_length? e))
       (λ q _.
       part_same q (byte file p) (byte file' p) _ _ RuleLabel e
@@ -117,7 +117,7 @@ module _ (file file' : List ℕ) (r : RecasedRule file file') where
   unfolding read_labels
   labels_same zero = refl
   labels_same (suc n) =
-      then_same Err _ _ _ _ (labels_same n)
+      then_same _ _ _ _ (labels_same n)
       (λ p e.
       let place : label_start file n ≡ p = place_same n ∙ sym (labels_read file' n p e).0 in
       label_same n p (subst (λ (q : ℕ). byte file q ≡ byte file' q) place (size_same n)))
@@ -135,7 +135,7 @@ module _ (file file' : List ℕ) (r : RecasedRule file file') where
     unfolding read_nodes
     nodes_same zero = refl
     nodes_same (suc n) =
-        then_same Err _ _ _ _ (nodes_same n)
+        then_same _ _ _ _ (nodes_same n)
         (λ _ _. part_same (p + 3 * n) 3 3 _ _ RuleNode refl (ap₂ (λ (l : ℕ) (x : Node). fields_ok l n x) count_same (node_same n)))
 
     shape_same : (o : Op) (a b : ℕ) (f g : ℕ → Formula) → ((c : ℕ) → f c ≡ g c) → shape file o a b f ≡ shape file' o a b g
@@ -171,10 +171,10 @@ module _ (file file' : List ℕ) (r : RecasedRule file file') where
     whole_same : (n : ℕ) → whole_table file p n ≡ whole_table file' p n
     unfolding whole_table
     whole_same n = λ i.
-        unless (once_same n (n - 1) i) 8
-        (unless (scoped (formula_same (n - 1) i) no_scope) 9
-        (unless (shallow max_nested (formula_same (n - 1) i)) 10
-        (RuleRead.Rule (record { labels = count_same i; nodes = p; count = n }))))
+        unless (once_same n (n - 1) i) RuleNotATree
+        (unless (scoped (formula_same (n - 1) i) no_scope) RuleUnbound
+        (unless (shallow max_nested (formula_same (n - 1) i)) RuleTooDeep
+        (Ok (record { labels = count_same i; nodes = p; count = n }))))
 
     node_count_same : read_node_count file p ≡ read_node_count file' p
     node_count_same = part_same p 1 1 _ _ RuleCount refl (ap (λ (m : ℕ). leb 1 m && leb m max_nodes) (behind_same p h))
@@ -187,17 +187,17 @@ module _ (file file' : List ℕ) (r : RecasedRule file file') where
   rule_same : rule_of file ≡ rule_of file'
   unfolding rule_of
   rule_same =
-      then_same refused _ _ _ _ mark_same λ _ _.
-      then_same refused _ _ _ _ version_same λ _ _.
-      then_same refused _ _ _ _ label_count_same λ _ _.
-      then_same refused _ _ _ _ (ap (read_labels file) count_same ∙ labels_same (label_count file')) λ p f.
+      then_same _ _ _ _ mark_same λ _ _.
+      then_same _ _ _ _ version_same λ _ _.
+      then_same _ _ _ _ label_count_same λ _ _.
+      then_same _ _ _ _ (ap (read_labels file) count_same ∙ labels_same (label_count file')) λ p f.
       let end : label_start file' (label_count file') ≡ p = sym (labels_read file' (label_count file') p f).0 in
       let place : label_start file (label_count file) ≡ p = ap (label_start file) count_same ∙ (place_same (label_count file') ∙ end) in
       let count : byte file p ≡ byte file' p = behind_same p (omega arith) in
-      then_same refused _ _ _ _ (node_count_same p (omega arith)) λ q g.
+      then_same _ _ _ _ (node_count_same p (omega arith)) λ q g.
       let behind : label_start file (label_count file) ≤ q = omega (arith, (count_read file' p q g).0) in
-      then_same refused _ _ _ _ (ap (read_nodes file q) count ∙ nodes_same q behind (byte file' p)) λ e _.
-      then_same refused _ _ _ _ (follows_same e) λ _ _.
+      then_same _ _ _ _ (ap (read_nodes file q) count ∙ nodes_same q behind (byte file' p)) λ e _.
+      then_same _ _ _ _ (follows_same e) λ _ _.
       ap (whole_table file q) count ∙ whole_same q behind (byte file' p)
 
   inside_same : (p : ℕ) → InLabel file p → InLabel file' p
@@ -221,7 +221,7 @@ recased_back file file' r =
 pub rule_recased : (file file' : List ℕ) → RecasedRule file file' → rule_of file ≡ rule_of file'
 rule_recased = rule_same
 
-pub formula_recased : (file file' : List ℕ) → RecasedRule file file' → (x : Rule) → rule_of file ≡ RuleRead.Rule x → formula_of file x ≡ formula_of file' x
+pub formula_recased : (file file' : List ℕ) → RecasedRule file file' → (x : Rule) → rule_of file ≡ Ok x → formula_of file x ≡ formula_of file' x
 formula_recased file file' r x e =
     let t = rule_taken file x e in
     let behind : label_start file (label_count file) ≤ x.nodes = omega (arith, t.nodes_at, ap (label_start file) t.labels) in

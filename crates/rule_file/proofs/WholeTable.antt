@@ -19,7 +19,8 @@ use Rattle.rules.specs.Table.{Op, op_has, op_none, op_pair, pairing_of, op_of, n
 use Rattle.rules.specs.Checks.{field_names, fields_naming, node_names, times_named, once_below, named_once, scope_of, root_formula, whole_table}
 use Rattle.rules.specs.declared.Node.{Node}
 use Rattle.rules.specs.declared.Vars.{Vars}
-use Rattle.rules.specs.declared.RuleRead.{RuleRead}
+use Rattle.std.specs.Prelude.{Ok, Err}
+use Rattle.refusals.specs.declared.Refusal.TheVariants.{RuleNotATree, RuleUnbound, RuleTooDeep}
 use Rattle.rules.proofs.Formulas.{formula-and, formula_not, formula_some, formula-has, by_atom}
 
 -- ── 8: how often a node is named ──
@@ -172,21 +173,21 @@ pub ruleset depths = (shallow-and, shallow-and_not, shallow_not, shallow-deep, s
 
 -- ── the three checks in order ──
 module _ (file : List ℕ) (p n : ℕ) (a b d : Bool) (once : a ≡ named_once file p n) where
-  pub whole-8 : not a ≡ true → RuleRead.Refused 8 ≡ whole_table file p n
+  pub whole-8 : not a ≡ true → Err RuleNotATree ≡ whole_table file p n
   unfolding whole_table
   whole-8 h = rw (sym once ∙ not-true a h) refl
 
   module _ (h : not a ≡ false) (bound : b ≡ scoped (root_formula file p n) no_scope) where
-    pub whole-9 : not b ≡ true → RuleRead.Refused 9 ≡ whole_table file p n
+    pub whole-9 : not b ≡ true → Err RuleUnbound ≡ whole_table file p n
     unfolding whole_table
     whole-9 i = rw (sym once ∙ not-false a h, sym bound ∙ not-true b i) refl
 
-    pub whole-10 : not b ≡ false → d ≡ shallow max_nested (root_formula file p n) → not d ≡ true → RuleRead.Refused 10 ≡ whole_table file p n
+    pub whole-10 : not b ≡ false → d ≡ shallow max_nested (root_formula file p n) → not d ≡ true → Err RuleTooDeep ≡ whole_table file p n
     unfolding whole_table
     whole-10 i deep j = rw (sym once ∙ not-false a h, sym bound ∙ not-false b i, sym deep ∙ not-true d j) refl
 
-    pub whole_ok : (l : ℕ) → l ≡ label_count file → not b ≡ false → d ≡ shallow max_nested (root_formula file p n) → not d ≡ false → RuleRead.Rule (record { labels = l; nodes = p; count = n }) ≡ whole_table file p n
+    pub whole_ok : (l : ℕ) → l ≡ label_count file → not b ≡ false → d ≡ shallow max_nested (root_formula file p n) → not d ≡ false → Ok (record { labels = l; nodes = p; count = n }) ≡ whole_table file p n
     unfolding whole_table
-    whole_ok l e i deep j = rw (sym once ∙ not-false a h, sym bound ∙ not-false b i, sym deep ∙ not-false d j) (ap (λ (k : ℕ). RuleRead.Rule (record { labels = k; nodes = p; count = n })) e)
+    whole_ok l e i deep j = rw (sym once ∙ not-false a h, sym bound ∙ not-false b i, sym deep ∙ not-false d j) (ap (λ (k : ℕ). Ok (record { labels = k; nodes = p; count = n })) e)
 
 pub ruleset wholes = (whole-8, whole-9, whole-10, whole_ok)

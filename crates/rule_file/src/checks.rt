@@ -7,8 +7,9 @@ ghost use Rattle.rules.specs.Table.{Good, formula_at};
 ghost use Rattle.rules.specs.Checks.{field_names, node_names, times_named, named_once, scope_of, whole_table};
 
 use crate::MAX_NESTED;
+use refusals::Refusal;
 use rules::table::node_at;
-use rules::{Node, Rule, RuleRead, VARIABLES, Vars};
+use rules::{Node, Rule, VARIABLES, Vars};
 
 // Whether a field names node c, as a number.
 fn field_names(field: usize, c: usize) -> usize
@@ -141,22 +142,22 @@ fn nesting_ok(file: &[u8], first: usize, node: usize) -> bool
 }
 
 // The rule of a table whose nodes are in range, or its first fault as a whole.
-pub fn whole(file: &[u8], labels: usize, first: usize, count: usize) -> RuleRead
+pub fn whole(file: &[u8], labels: usize, first: usize, count: usize) -> Result<Rule, Refusal>
     requires labels_value { (labels ≡ label_count file.now) × ((1 ≤ count) × (first + 3 * count ≤ length file.now)) }
     requires good { Good file.now first (count - 1) }
     ensures { result ≡ whole_table file.now first count }
 {
     let root = count - 1;
     if !named_once(file, first, count) {
-        return RuleRead::Refused(8);
+        return Err(Refusal::RuleNotATree);
     }
     if !is_closed(file, first, root) {
-        return RuleRead::Refused(9);
+        return Err(Refusal::RuleUnbound);
     }
     if !nesting_ok(file, first, root) {
-        return RuleRead::Refused(10);
+        return Err(Refusal::RuleTooDeep);
     }
-    RuleRead::Rule(Rule {
+    Ok(Rule {
         labels,
         nodes: first,
         count,

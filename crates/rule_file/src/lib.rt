@@ -1,11 +1,12 @@
-// A rule file as a whole: the rule that its bytes hold, or the number of its first fault (1 to 10).
+// A rule file as a whole: the rule that its bytes hold, or its first fault, of the first ten refusals.
 //
 // `read_rule` reads a file of any bytes, part by part from its front, and then checks its table of nodes as a whole.
 #![tactic(auto)]
 
 ghost use Rattle.rules.specs.Rules.{ReadsRule};
 
-use rules::{LABEL_COUNT_AT, RuleRead};
+use refusals::Refusal;
+use rules::{LABEL_COUNT_AT, Rule};
 
 mod checks;
 
@@ -13,33 +14,17 @@ mod checks;
 pub const MAX_NESTED: usize = 4;
 
 // The rule of a file, or its first refusal.
-pub fn read_rule(file: &[u8]) -> RuleRead
+pub fn read_rule(file: &[u8]) -> Result<Rule, Refusal>
     ensures { ReadsRule file.now result }
 {
-    let h = rules::front::head(file);
-    match h {
-        Ok(_) => {}
-        Err(e) => return RuleRead::Refused(u8::from(e)),
-    }
+    rules::front::head(file)?;
     let labels = file[LABEL_COUNT_AT] as usize;
-    let l = rules::file_labels::labels(file, labels);
-    let at = match l {
-        Ok(p) => p,
-        Err(e) => return RuleRead::Refused(u8::from(e)),
-    };
-    let c = rules::table::node_count(file, at);
-    let first = match c {
-        Ok(p) => p,
-        Err(e) => return RuleRead::Refused(u8::from(e)),
-    };
+    let at = rules::file_labels::labels(file, labels)?;
+    let first = rules::table::node_count(file, at)?;
     let count = file[at] as usize;
-    let t = rules::table::nodes(file, labels, first, count);
-    let end = match t {
-        Ok(p) => p,
-        Err(e) => return RuleRead::Refused(u8::from(e)),
-    };
+    let end = rules::table::nodes(file, labels, first, count)?;
     if end != file.len() {
-        return RuleRead::Refused(7);
+        return Err(Refusal::RuleTooLong);
     }
     checks::whole(file, labels, first, count)
 }

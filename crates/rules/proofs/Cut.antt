@@ -17,12 +17,13 @@ use Rattle.rules.specs.Limits.{max_labels, max_nodes}
 use Rattle.rules.specs.Parts.{byte, part, and_then, read_mark, read_version, label_count, read_label_count, read_node_count, nothing_follows}
 use Rattle.rules.specs.Labels.{label_start, label_from, label_bytes, listed, read_label, read_labels, LabelsOk}
 use Rattle.rules.specs.Table.{node_at, fields_ok, read_nodes}
-use Rattle.rules.specs.Rules.{refused, rule_of}
+use Rattle.rules.specs.Rules.{rule_of}
 use Rattle.rules.specs.declared.Node.{Node}
 use Rattle.std.specs.Prelude.{Err}
 use Rattle.refusals.specs.declared.Refusal.{Refusal}
-use Rattle.refusals.specs.declared.Refusal.TheVariants.{RuleTooLong, RuleMark, RuleVersion, RuleCount, RuleLabel, RuleNode}
-use Rattle.rules.specs.declared.RuleRead.{RuleRead}
+use Rattle.std.specs.Prelude.{Result}
+use Rattle.rules.specs.declared.Rule.{Rule}
+use Rattle.refusals.specs.declared.Refusal.TheVariants.{RuleMark, RuleVersion, RuleCount, RuleLabel, RuleNode, RuleTooLong}
 use Rattle.rules.proofs.Parts.{part_read, then-stop, then_same, count_read, more-follows}
 use Rattle.rules.proofs.Labels.{labels_read, place_low}
 use Rattle.rules.proofs.Nodes.{nodes_read}
@@ -71,7 +72,7 @@ module _ (a b : List ℕ) (first : 600 ≤ length a) (second : 600 ≤ length b)
   unfolding read_label
   label_same n p h k o =
       let size : byte a p ≡ byte b p = same p (omega arith) in
-      then_same Err _ _ _ _
+      then_same _ _ _ _
       (part_same p 1 1 _ _ RuleLabel (omega arith) refl (ap label_length? size))
       (λ q e.
       let u = part_read b p 1 _ RuleLabel q e in
@@ -84,7 +85,7 @@ module _ (a b : List ℕ) (first : 600 ≤ length a) (second : 600 ≤ length b)
   unfolding read_labels
   labels_same zero h = refl
   labels_same (suc n) h =
-      then_same Err _ _ _ _ (labels_same n (omega arith))
+      then_same _ _ _ _ (labels_same n (omega arith))
       (λ p e.
       let w = labels_read b n p e in
       label_same n p (omega arith) (omega (arith, w.0, place_low b n w.1)) w.1)
@@ -101,15 +102,15 @@ module _ (a b : List ℕ) (first : 600 ≤ length a) (second : 600 ≤ length b)
   unfolding read_nodes
   nodes_same p zero h = refl
   nodes_same p (suc n) h =
-      then_same Err _ _ _ _ (nodes_same p n (omega arith))
+      then_same _ _ _ _ (nodes_same p n (omega arith))
       (λ _ _.
       part_same (p + 3 * n) 3 3 _ _ RuleNode (omega arith) refl
       (ap₂ (λ (l : ℕ) (x : Node). fields_ok l n x) (same 5 (omega arith)) (node_same p n (omega arith))))
 
   -- ── the whole ──
-  follows_same : (e : ℕ) (x y : RuleRead) → e < 600 → and_then refused (nothing_follows a e) (λ _. x) ≡ and_then refused (nothing_follows b e) (λ _. y)
+  follows_same : (e : ℕ) (x y : Result Rule Refusal) → e < 600 → and_then (nothing_follows a e) (λ _. x) ≡ and_then (nothing_follows b e) (λ _. y)
   follows_same e x y h =
-      sym (then-stop refused _ RuleTooLong _ (more-follows a e (λ k. omega arith))) ∙ then-stop refused _ RuleTooLong _ (more-follows b e (λ k. omega arith))
+      sym (then-stop _ RuleTooLong _ (more-follows a e (λ k. omega arith))) ∙ then-stop _ RuleTooLong _ (more-follows b e (λ k. omega arith))
 
   mark_same : read_mark a ≡ read_mark b
   mark_same =
@@ -128,18 +129,18 @@ module _ (a b : List ℕ) (first : 600 ≤ length a) (second : 600 ≤ length b)
   rule_same : rule_of a ≡ rule_of b
   unfolding rule_of
   rule_same =
-      then_same refused _ _ _ _ mark_same λ _ _.
-      then_same refused _ _ _ _ version_same λ _ _.
-      then_same refused _ _ _ _ label_count_same λ c e.
+      then_same _ _ _ _ mark_same λ _ _.
+      then_same _ _ _ _ version_same λ _ _.
+      then_same _ _ _ _ label_count_same λ c e.
       let few : label_count b ≤ max_labels = leb-true _ _ (part_read b 5 1 _ RuleCount c e).1.1 in
-      then_same refused _ _ _ _ (ap (read_labels a) (same 5 (omega arith)) ∙ labels_same (label_count b) few) λ p f.
+      then_same _ _ _ _ (ap (read_labels a) (same 5 (omega arith)) ∙ labels_same (label_count b) few) λ p f.
       let l = labels_read b (label_count b) p f in
       let low : p ≤ 406 = omega (arith, few, l.0, place_low b (label_count b) l.1) in
       let count : byte a p ≡ byte b p = same p (omega arith) in
-      then_same refused _ _ _ _ (node_count_same p (omega arith)) λ q g.
+      then_same _ _ _ _ (node_count_same p (omega arith)) λ q g.
       let n = count_read b p q g in
       let end : q + 3 * byte b p ≤ 599 = omega (arith, low, n.0, n.1.1.1) in
-      then_same refused _ _ _ _ (ap (read_nodes a q) count ∙ nodes_same q (byte b p) (omega arith)) λ e h.
+      then_same _ _ _ _ (ap (read_nodes a q) count ∙ nodes_same q (byte b p) (omega arith)) λ e h.
       follows_same e _ _ (omega (arith, (nodes_read b q (byte b p) e h).0))
 
 -- THE LAW: nothing past the first 600 bytes of a rule file changes its rule or its refusal.

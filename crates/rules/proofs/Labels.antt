@@ -20,7 +20,7 @@ use Rattle.rules.specs.Labels.{label_start, label_from, label_bytes, listed, rea
 use Rattle.std.specs.Prelude.{Result, Ok, Err}
 use Rattle.refusals.specs.declared.Refusal.{Refusal}
 use Rattle.refusals.specs.declared.Refusal.TheVariants.{RuleEndsEarly, RuleLabel}
-use Rattle.rules.proofs.Parts.{at_inj, part_short, part_bad, part_ok, part_read, then-stop, then_at, both_read}
+use Rattle.rules.proofs.Parts.{ok_inj, part_short, part_bad, part_ok, part_read, then-stop, then_at, then_read}
 
 -- ── places ──
 -- a label ends no later than a later one starts
@@ -118,17 +118,17 @@ listed_end file n m at e h k = let q : m ≡ n = omega arith in sym (subst (λ (
 module _ (file : List ℕ) (n at : ℕ) (start : at ≤ length file) where
   pub label_none : length file - at < 1 → Err RuleEndsEarly ≡ read_label file n at
   unfolding read_label
-  label_none h = then-stop Err _ RuleEndsEarly _ (sym (part_short file at 1 _ RuleLabel (omega arith)))
+  label_none h = then-stop _ RuleEndsEarly _ (sym (part_short file at 1 _ RuleLabel (omega arith)))
 
   module _ (h : 1 ≤ length file - at) where
     pub label_empty : byte file at < 1 → Err RuleLabel ≡ read_label file n at
     unfolding read_label
-    label_empty k = then-stop Err _ RuleLabel _ (sym (part_bad file at 1 _ RuleLabel (omega arith) (simp (lt-leb 1 (byte file at) k))))
+    label_empty k = then-stop _ RuleLabel _ (sym (part_bad file at 1 _ RuleLabel (omega arith) (simp (lt-leb 1 (byte file at) k))))
 
     module _ (low : 1 ≤ byte file at) where
       pub label_long : max_label_bytes < byte file at → Err RuleLabel ≡ read_label file n at
       unfolding read_label
-      label_long k = then-stop Err _ RuleLabel _ (sym (part_bad file at 1 _ RuleLabel (omega arith) (simp (le-leb 1 (byte file at) low, lt-leb (byte file at) max_label_bytes k))))
+      label_long k = then-stop _ RuleLabel _ (sym (part_bad file at 1 _ RuleLabel (omega arith) (simp (le-leb 1 (byte file at) low, lt-leb (byte file at) max_label_bytes k))))
 
       module _ (high : byte file at ≤ max_label_bytes) where
         sized : label_length? (byte file at) ≡ true
@@ -136,7 +136,7 @@ module _ (file : List ℕ) (n at : ℕ) (start : at ≤ length file) where
 
         pub label_cut : length file - (at + 1) < byte file at → Err RuleEndsEarly ≡ read_label file n at
         unfolding read_label
-        label_cut k = then_at Err _ (at + 1) _ _ (sym (part_ok file at 1 _ RuleLabel (omega arith) sized)) (part_short file (at + 1) (byte file at) _ RuleLabel (omega arith))
+        label_cut k = then_at _ (at + 1) _ _ (sym (part_ok file at 1 _ RuleLabel (omega arith) sized)) (part_short file (at + 1) (byte file at) _ RuleLabel (omega arith))
 
         module _ (room : byte file at ≤ length file - (at + 1)) (l : Bool) (says : l ≡ label_form? (capitals (take (at + 1 + byte file at - (at + 1)) (drop (at + 1) file)))) where
           tested : label_form? (label_from file at) ≡ l
@@ -144,7 +144,7 @@ module _ (file : List ℕ) (n at : ℕ) (start : at ≤ length file) where
 
           faulty : (label_form? (label_from file at) && not (listed file n (label_from file at))) ≡ false → Err RuleLabel ≡ read_label file n at
           unfolding read_label
-          faulty e = then_at Err _ (at + 1) _ _ (sym (part_ok file at 1 _ RuleLabel (omega arith) sized)) (part_bad file (at + 1) (byte file at) _ RuleLabel (omega arith) e)
+          faulty e = then_at _ (at + 1) _ _ (sym (part_ok file at 1 _ RuleLabel (omega arith) sized)) (part_bad file (at + 1) (byte file at) _ RuleLabel (omega arith) e)
 
           pub label_letter : not l ≡ true → Err RuleLabel ≡ read_label file n at
           label_letter t = faulty (simp (tested ∙ not-true l t))
@@ -154,7 +154,7 @@ module _ (file : List ℕ) (n at : ℕ) (start : at ≤ length file) where
 
           pub label_ok : (d : Bool) → not l ≡ false → d ≡ listed file n (label_from file at) → d ≡ false → Ok (at + 1 + byte file at) ≡ read_label file n at
           unfolding read_label
-          label_ok d t f u = then_at Err _ (at + 1) _ _ (sym (part_ok file at 1 _ RuleLabel (omega arith) sized)) (part_ok file (at + 1) (byte file at) _ RuleLabel (omega arith) (simp (tested ∙ not-false l t, sym f ∙ u)))
+          label_ok d t f u = then_at _ (at + 1) _ _ (sym (part_ok file at 1 _ RuleLabel (omega arith) sized)) (part_ok file (at + 1) (byte file at) _ RuleLabel (omega arith) (simp (tested ∙ not-false l t, sym f ∙ u)))
 
 pub ruleset label-cases = (label_none, label_empty, label_long, label_cut, label_letter, label_twice, label_ok)
 
@@ -169,7 +169,7 @@ label_read file n q e =
     let p : ℕ = label_start file n in
     let size : Bool = label_length? (byte file p) in
     let fit : Bool = label_form? (label_from file p) && not (listed file n (label_from file p)) in
-    let t = both_read (part file p 1 size RuleLabel) (λ q. part file q (byte file p) fit RuleLabel) q e in
+    let t = then_read (part file p 1 size RuleLabel) (λ q. part file q (byte file p) fit RuleLabel) q e in
     let u = part_read file p 1 size RuleLabel t.0 t.1 in
     let v = part_read file t.0 (byte file p) fit RuleLabel q t.2 in (
       omega (arith, u.0, v.0),
@@ -184,9 +184,9 @@ label_read file n q e =
 
 pub labels_read : (file : List ℕ) (n q : ℕ) → read_labels file n ≡ Ok q → (q ≡ label_start file n) × LabelsOk file n
 unfolding read_labels
-labels_read file zero q e = (sym (at_inj 6 q e) ∙ place_first file, λ i h. absurd (omega arith))
+labels_read file zero q e = (sym (ok_inj 6 q e) ∙ place_first file, λ i h. absurd (omega arith))
 labels_read file (suc n) q e =
-    let t = both_read (read_labels file n) (λ p. read_label file n p) q e in
+    let t = then_read (read_labels file n) (λ p. read_label file n p) q e in
     let w = labels_read file n t.0 t.1 in
     let v = label_read file n q (subst (λ (p : ℕ). read_label file n p ≡ Ok q) w.0 t.2) in
     (v.0, λ i h. either_eq i n (λ g. subst (λ (k : ℕ). LabelOk file k) (sym g) v.1) (λ g. w.1 i (omega arith)))

@@ -16,7 +16,7 @@ use Rattle.rules.specs.declared.Node.{Node}
 use Rattle.std.specs.Prelude.{Result, Ok, Err}
 use Rattle.refusals.specs.declared.Refusal.{Refusal}
 use Rattle.refusals.specs.declared.Refusal.TheVariants.{RuleEndsEarly, RuleNode}
-use Rattle.rules.proofs.Parts.{at_inj, part_short, part_bad, part_ok, part_read, both_read}
+use Rattle.rules.proofs.Parts.{ok_inj, part_short, part_bad, part_ok, part_read, then_read}
 use Rattle.rules.proofs.Formulas.{op_pair_lem, op_none_lem}
 
 -- ── two fields below their bounds ──
@@ -82,9 +82,9 @@ node_read file p i q e =
 
 pub nodes_read : (file : List ℕ) (p n q : ℕ) → read_nodes file p n ≡ Ok q → (q ≡ p + 3 * n) × ((i : ℕ) → i < n → NodeOk file p i)
 unfolding read_nodes
-nodes_read file p zero q e = let z = at_inj p q e in (omega arith, λ i h. absurd (omega arith))
+nodes_read file p zero q e = let z = ok_inj p q e in (omega arith, λ i h. absurd (omega arith))
 nodes_read file p (suc n) q e =
-    let t = both_read (read_nodes file p n) (λ _. read_node file p n) q e in
+    let t = then_read (read_nodes file p n) (λ _. read_node file p n) q e in
     let w = nodes_read file p n t.0 t.1 in
     let v = node_read file p n q t.2 in
     (omega (arith, v.0), λ i h. either_eq i n (λ g. subst (λ (k : ℕ). NodeOk file p k) (sym g) v.1) (λ g. w.1 i (omega arith)))

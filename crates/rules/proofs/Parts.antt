@@ -11,14 +11,25 @@ use Rattle.lists.proofs.Cases.{and_left, and_right}
 use Rattle.rules.specs.Limits.{max_labels, max_nodes}
 use Rattle.rules.specs.Parts.{byte, part, and_then, read_mark, read_version, label_count, read_label_count, read_head, read_node_count, nothing_follows}
 use Rattle.std.specs.Prelude.{Result, Ok, Err}
+use Rattle.refusals.specs.Refusal.{number, RefusedWith}
 use Rattle.refusals.specs.declared.Refusal.{Refusal}
 use Rattle.refusals.specs.declared.Refusal.TheVariants.{RuleEndsEarly, RuleMark, RuleVersion, RuleCount, RuleTooLong}
 
-pub at_inj : (p q : ℕ) → ◌≡◌ {A = Result ℕ Refusal} (Ok p) (Ok q) → p ≡ q
-at_inj p q e = cc
+pub ok_inj : {A : Type 0} (p q : A) → ◌≡◌ {A = Result A Refusal} (Ok p) (Ok q) → p ≡ q
+ok_inj p q e = cc
 
-pub not_at : {X : Type 0} (e : Refusal) (q : ℕ) → ◌≡◌ {A = Result ℕ Refusal} (Err e) (Ok q) → X
-not_at e q h = absurd (let z : ◌≡◌ {A = ℕ} 0 1 = cc in omega arith)
+pub not_ok : {A X : Type 0} (e : Refusal) (q : A) → ◌≡◌ {A = Result A Refusal} (Err e) (Ok q) → X
+not_ok e q h = absurd (let z : ◌≡◌ {A = ℕ} 0 1 = cc in omega arith)
+
+pub err_inj : {A : Type 0} (d e : Refusal) → ◌≡◌ {A = Result A Refusal} (Err d) (Err e) → d ≡ e
+err_inj d e h = cc
+
+-- a call has one answer
+pub one_number : {A : Type 0} (r : Result A Refusal) (c d : ℕ) → RefusedWith c r → RefusedWith d r → c ≡ d
+one_number r c d p q = sym p.1.1 ∙ ap number (err_inj p.0 q.0 (sym p.1.0 ∙ q.1.0)) ∙ q.1.1
+
+pub taken_or_refused : {A X : Type 0} (r : Result A Refusal) (x : A) (c : ℕ) → r ≡ Ok x → RefusedWith c r → X
+taken_or_refused r x c e p = not_ok p.0 x (sym p.1.0 ∙ e)
 
 -- ── one part ──
 module _ (file : List ℕ) (p n : ℕ) (ok : Bool) (fault : Refusal) where
@@ -40,42 +51,39 @@ unfolding part
 part_read file p n ok fault q e = go (leb (p + n) (length file)) ok refl e
   where
     go : (x y : Bool) → leb (p + n) (length file) ≡ x → cond x (cond y (Ok (p + n)) (Err fault)) (Err RuleEndsEarly) ≡ Ok q → (q ≡ p + n) × ((p + n ≤ length file) × (y ≡ true))
-    go true true h f = (sym (at_inj (p + n) q f), (leb-true (p + n) (length file) h, refl))
-    go true false h f = not_at fault q f
-    go false y h f = not_at RuleEndsEarly q f
+    go true true h f = (sym (ok_inj (p + n) q f), (leb-true (p + n) (length file) h, refl))
+    go true false h f = not_ok fault q f
+    go false y h f = not_ok RuleEndsEarly q f
 
 -- ── one part after another ──
--- equal parts, and what follows is equal where they are read
-pub then_same : {A : Type 0} (refuse : Refusal → A) (r s : Result ℕ Refusal) (f g : ℕ → A) → r ≡ s → ((p : ℕ) → s ≡ Ok p → f p ≡ g p) → and_then refuse r f ≡ and_then refuse s g
-unfolding and_then
-then_same {A = A} refuse r s f g e h = ap (λ (k : Result ℕ Refusal). and_then refuse k f) e ∙ go s h
-  where
-    go : (k : Result ℕ Refusal) → ((p : ℕ) → k ≡ Ok p → f p ≡ g p) → and_then refuse k f ≡ and_then refuse k g
-    go (Ok p) l = l p refl
-    go (Err n) l = refl
-
-module _ {A : Type 0} (refuse : Refusal → A) where
-  pub then-stop : (r : Result ℕ Refusal) (n : Refusal) (f : ℕ → A) → r ≡ Err n → refuse n ≡ and_then refuse r f
+module _ {A B : Type 0} where
+  -- equal parts, and what follows is equal where they are read
+  pub then_same : (r s : Result A Refusal) (f g : A → Result B Refusal) → r ≡ s → ((p : A) → s ≡ Ok p → f p ≡ g p) → and_then r f ≡ and_then s g
   unfolding and_then
-  then-stop r n f e = sym (ap (λ (q : Result ℕ Refusal). and_then refuse q f) e)
+  then_same r s f g e h = ap (λ (k : Result A Refusal). and_then k f) e ∙ go s h
+    where
+      go : (k : Result A Refusal) → ((p : A) → k ≡ Ok p → f p ≡ g p) → and_then k f ≡ and_then k g
+      go (Ok p) l = l p refl
+      go (Err n) l = refl
 
-  pub then_at : (r : Result ℕ Refusal) (p : ℕ) (f : ℕ → A) (x : A) → r ≡ Ok p → x ≡ f p → x ≡ and_then refuse r f
+  pub then-stop : (r : Result A Refusal) (n : Refusal) (f : A → Result B Refusal) → r ≡ Err n → Err n ≡ and_then r f
   unfolding and_then
-  then_at r p f x e h = h ∙ sym (ap (λ (q : Result ℕ Refusal). and_then refuse q f) e)
+  then-stop r n f e = sym (ap (λ (q : Result A Refusal). and_then q f) e)
 
-  pub then_read : (r : Result ℕ Refusal) (f : ℕ → A) (x : A) → ((n : Refusal) → refuse n ≡ x → ⊥) → and_then refuse r f ≡ x → (p : ℕ) × (r ≡ Ok p) × (f p ≡ x)
+  pub then_at : (r : Result A Refusal) (p : A) (f : A → Result B Refusal) (x : Result B Refusal) → r ≡ Ok p → x ≡ f p → x ≡ and_then r f
   unfolding and_then
-  then_read (Ok p) f x apart e = (p, refl, e)
-  then_read (Err n) f x apart e = absurd (apart n e)
+  then_at r p f x e h = h ∙ sym (ap (λ (q : Result A Refusal). and_then q f) e)
+
+  pub then_read : (r : Result A Refusal) (f : A → Result B Refusal) (x : B) → and_then r f ≡ Ok x → (p : A) × (r ≡ Ok p) × (f p ≡ Ok x)
+  unfolding and_then
+  then_read (Ok p) f x e = (p, refl, e)
+  then_read (Err n) f x e = not_ok n x e
 
   -- two parts read as one
-  pub then-then : (r : Result ℕ Refusal) (f : ℕ → Result ℕ Refusal) (g : ℕ → A) → and_then refuse (and_then Err r f) g ≡ and_then refuse r (λ p. and_then refuse (f p) g)
+  pub then-then : {C : Type 0} (r : Result A Refusal) (f : A → Result B Refusal) (g : B → Result C Refusal) → and_then (and_then r f) g ≡ and_then r (λ p. and_then (f p) g)
   unfolding and_then
   then-then (Ok p) f g = refl
   then-then (Err n) f g = refl
-
-pub both_read : (r : Result ℕ Refusal) (f : ℕ → Result ℕ Refusal) (q : ℕ) → and_then Err r f ≡ Ok q → (p : ℕ) × (r ≡ Ok p) × (f p ≡ Ok q)
-both_read r f q e = then_read Err r f (Ok q) (λ n h. not_at n q h) e
 
 -- ── the mark ──
 module _ (file : List ℕ) where
@@ -118,22 +126,22 @@ module _ (file : List ℕ) where
   module _ (m : Result ℕ Refusal) where
     pub head_mark : (n : Refusal) → m ≡ read_mark file → m ≡ Err n → Err n ≡ read_head file
     unfolding read_head
-    head_mark n e f = then-stop Err _ n _ (sym e ∙ f)
+    head_mark n e f = then-stop _ n _ (sym e ∙ f)
 
   module _ (m v : Result ℕ Refusal) where
     pub head_version : (n : Refusal) (p : ℕ) → m ≡ read_mark file → m ≡ Ok p → v ≡ read_version file → v ≡ Err n → Err n ≡ read_head file
     unfolding read_head
-    head_version n p e f g h = then_at Err _ p _ _ (sym e ∙ f) (then-stop Err _ n _ (sym g ∙ h))
+    head_version n p e f g h = then_at _ p _ _ (sym e ∙ f) (then-stop _ n _ (sym g ∙ h))
 
     pub head_count : (p q : ℕ) (r : Result ℕ Refusal) → m ≡ read_mark file → m ≡ Ok p → v ≡ read_version file → v ≡ Ok q → r ≡ read_label_count file → r ≡ read_head file
     unfolding read_head
-    head_count p q r e f g h i = then_at Err _ p _ _ (sym e ∙ f) (then_at Err _ q _ _ (sym g ∙ h) i)
+    head_count p q r e f g h i = then_at _ p _ _ (sym e ∙ f) (then_at _ q _ _ (sym g ∙ h) i)
 
   pub head_read : (q : ℕ) → read_head file ≡ Ok q → (6 ≤ length file) × (label_count file ≤ max_labels)
   unfolding read_head
   head_read q e =
-      let t = both_read (read_mark file) (λ _. and_then Err (read_version file) (λ _. read_label_count file)) q e in
-      let u = both_read (read_version file) (λ _. read_label_count file) q t.2 in
+      let t = then_read (read_mark file) (λ _. and_then (read_version file) (λ _. read_label_count file)) q e in
+      let u = then_read (read_version file) (λ _. read_label_count file) q t.2 in
       let v = part_read file 5 1 _ RuleCount q u.2 in
       (v.1.0, leb-true _ _ v.1.1)
 

@@ -8,9 +8,9 @@ use Rattle.rules.specs.Table.{read_nodes, tree, formula_at}
 use Rattle.rules.specs.Checks.{times_named, once_below, whole_table}
 use Rattle.rules.specs.Rules.{rule_of, formula_of}
 use Rattle.rules.specs.Cases.{p1_file, p1_rule, no_evening_includes_test, p10_file, p10_rule, some_same_as_itself}
-use Rattle.rules.specs.declared.RuleRead.TheVariants as RuleRead
+use Rattle.std.specs.Prelude.{Ok}
 
-pub p1-taken : rule_of p1_file ≡ RuleRead.Rule p1_rule
+pub p1-taken : rule_of p1_file ≡ Ok p1_rule
 unfolding rule_of part and_then nothing_follows label_start listed read_label read_labels read_nodes tree formula_at times_named once_below whole_table scoped shallow letter? digit? label_form? capital
 p1-taken = refl
 
@@ -18,7 +18,7 @@ pub p1-formula : formula_of p1_file p1_rule ≡ no_evening_includes_test
 unfolding formula_at tree label_start capital
 p1-formula = refl
 
-pub p10-taken : rule_of p10_file ≡ RuleRead.Rule p10_rule
+pub p10-taken : rule_of p10_file ≡ Ok p10_rule
 unfolding rule_of part and_then nothing_follows label_start read_labels read_nodes times_named once_below whole_table tree formula_at scoped shallow
 p10-taken = refl
 

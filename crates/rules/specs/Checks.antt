@@ -6,7 +6,10 @@ use Rattle.rules.specs.Parts.{label_count}
 use Rattle.rules.specs.Table.{Op, op_and, op_not, op_some, op_has, op_none, op_pair, op_of, node_at, formula_at}
 use Rattle.rules.specs.declared.Node.{Node}
 use Rattle.rules.specs.declared.Vars.{Vars}
-use Rattle.rules.specs.declared.RuleRead.{RuleRead}
+use Rattle.std.specs.Prelude.{Result, Ok, Err}
+use Rattle.refusals.specs.declared.Refusal.{Refusal}
+use Rattle.rules.specs.declared.Rule.{Rule}
+use Rattle.refusals.specs.declared.Refusal.TheVariants.{RuleNotATree, RuleUnbound, RuleTooDeep}
 
 -- how often a field names node c: once if it is c
 abbrev pub field_names : ℕ → ℕ → ℕ
@@ -47,14 +50,14 @@ abbrev pub root_formula : List ℕ → ℕ → ℕ → Formula
 root_formula file p n = formula_at file p (n - 1)
 
 -- a test with its refusal, and what follows if it is passed
-abbrev pub unless : Bool → ℕ → RuleRead → RuleRead
+abbrev pub unless : Bool → Refusal → Result Rule Refusal → Result Rule Refusal
 unless true fault next = next
-unless false fault next = RuleRead.Refused fault
+unless false fault next = Err fault
 
 -- The rule of a table of n nodes at p, or its first fault as a whole.
-unfoldable pub whole_table : List ℕ → ℕ → ℕ → RuleRead
+unfoldable pub whole_table : List ℕ → ℕ → ℕ → Result Rule Refusal
 whole_table file p n =
-    unless (named_once file p n) 8
-    (unless (scoped (root_formula file p n) no_scope) 9
-    (unless (shallow max_nested (root_formula file p n)) 10
-    (RuleRead.Rule (record { labels = label_count file; nodes = p; count = n }))))
+    unless (named_once file p n) RuleNotATree
+    (unless (scoped (root_formula file p n) no_scope) RuleUnbound
+    (unless (shallow max_nested (root_formula file p n)) RuleTooDeep
+    (Ok (record { labels = label_count file; nodes = p; count = n }))))

@@ -27,13 +27,13 @@ listed file (suc n) l = listed file n l || same? (label_bytes file n) l
 -- rule file's list that differ only in case"
 unfoldable pub read_label : List ℕ → ℕ → ℕ → Result ℕ Refusal
 read_label file n p =
-    and_then Err (part file p 1 (label_length? (byte file p)) RuleLabel)
+    and_then (part file p 1 (label_length? (byte file p)) RuleLabel)
     (λ q. part file q (byte file p) (label_form? (label_from file p) && not (listed file n (label_from file p))) RuleLabel)
 
 -- the first n labels
 unfoldable pub read_labels : List ℕ → ℕ → Result ℕ Refusal
 read_labels file zero = Ok labels_at
-read_labels file (suc n) = and_then Err (read_labels file n) (λ p. read_label file n p)
+read_labels file (suc n) = and_then (read_labels file n) (λ p. read_label file n p)
 
 -- label n stands in the file, is a label, and is none of those before it
 pub record LabelOk (file : List ℕ) (n : ℕ) : Type 0 where

@@ -13,10 +13,10 @@ byte file p = get_or file p 0
 unfoldable pub part : List ℕ → ℕ → ℕ → Bool → Refusal → Result ℕ Refusal
 part file p n ok fault = cond (leb (p + n) (length file)) (cond ok (Ok (p + n)) (Err fault)) (Err RuleEndsEarly)
 
--- What follows a part, from the place after it; a refusal ends the reading.
-unfoldable pub and_then : {A B E : Type 0} → (E → B) → Result A E → (A → B) → B
-and_then refuse (Ok x) f = f x
-and_then refuse (Err e) f = refuse e
+-- What follows a part, from the place after it; a refusal ends the reading. `option_and_then` of the library, for a `Result`.
+unfoldable pub and_then : {A B E : Type 0} → Result A E → (A → Result B E) → Result B E
+and_then (Ok x) f = f x
+and_then (Err e) f = Err e
 
 -- "the mark `RUL`"
 abbrev pub read_mark : List ℕ → Result ℕ Refusal
@@ -42,7 +42,7 @@ abbrev pub read_label_count : List ℕ → Result ℕ Refusal
 read_label_count file = part file label_count_at 1 (leb (label_count file) max_labels) RuleCount
 
 unfoldable pub read_head : List ℕ → Result ℕ Refusal
-read_head file = and_then Err (read_mark file) (λ _. and_then Err (read_version file) (λ _. read_label_count file))
+read_head file = and_then (read_mark file) (λ _. and_then (read_version file) (λ _. read_label_count file))
 
 -- "node count 1 to 64", at p
 abbrev pub read_node_count : List ℕ → ℕ → Result ℕ Refusal

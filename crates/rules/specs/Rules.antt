@@ -9,23 +9,19 @@ use Rattle.rules.specs.Labels.{label_start, read_labels, LabelsOk}
 use Rattle.rules.specs.Table.{read_nodes, Good, formula_at}
 use Rattle.rules.specs.Checks.{named_once, whole_table}
 use Rattle.rules.specs.declared.Rule.{Rule}
-use Rattle.rules.specs.declared.RuleRead.{RuleRead}
-
--- a refusal as the answer of the whole
-abbrev pub refused : Refusal → RuleRead
-refused e = RuleRead.Refused (number e)
+use Rattle.std.specs.Prelude.{Result, Ok, Err}
 
 -- "the rule from its front, each part (mark, version, count, length byte, label bytes, node) first for 1 and then for its
 -- own fault, then 7, 8, 9, 10, each over the whole table"
-unfoldable pub rule_of : List ℕ → RuleRead
+unfoldable pub rule_of : List ℕ → Result Rule Refusal
 rule_of file =
-    and_then refused (read_mark file) λ _.
-    and_then refused (read_version file) λ _.
-    and_then refused (read_label_count file) λ _.
-    and_then refused (read_labels file (label_count file)) λ p.
-    and_then refused (read_node_count file p) λ q.
-    and_then refused (read_nodes file q (byte file p)) λ e.
-    and_then refused (nothing_follows file e) λ _.
+    and_then (read_mark file) λ _.
+    and_then (read_version file) λ _.
+    and_then (read_label_count file) λ _.
+    and_then (read_labels file (label_count file)) λ p.
+    and_then (read_node_count file p) λ q.
+    and_then (read_nodes file q (byte file p)) λ e.
+    and_then (nothing_follows file e) λ _.
     whole_table file q (byte file p)
 
 -- "The last node is the root": the formula of a file's rule
@@ -35,7 +31,7 @@ formula_of file x = formula_at file x.nodes (x.count - 1)
 -- what holds of a file that is taken
 pub record Taken (file : List ℕ) (x : Rule) : Type 0 where
   -- reading it from its front meets no refusal, and x is its rule
-  pub read : rule_of file ≡ RuleRead.Rule x
+  pub read : rule_of file ≡ Ok x
   -- the labels: how many, each in the file and of the right form, none twice
   pub labels : x.labels ≡ label_count file
   pub labels_few : x.labels ≤ max_labels
@@ -53,7 +49,7 @@ pub record Taken (file : List ℕ) (x : Rule) : Type 0 where
   pub size : length file ≤ max_file_bytes
 
 -- what reading a rule file answers, and what the answer means
-pub record ReadsRule (file : List ℕ) (r : RuleRead) : Type 0 where
+pub record ReadsRule (file : List ℕ) (r : Result Rule Refusal) : Type 0 where
   pub answer : r ≡ rule_of file
-  pub taken : (x : Rule) → r ≡ RuleRead.Rule x → Taken file x
-  pub refused : (n : ℕ) → r ≡ RuleRead.Refused n → (1 ≤ n) × (n ≤ 10)
+  pub taken : (x : Rule) → r ≡ Ok x → Taken file x
+  pub refused : (e : Refusal) → r ≡ Err e → (1 ≤ number e) × (number e ≤ 10)

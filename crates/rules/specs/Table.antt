@@ -52,7 +52,7 @@ read_node file p n = part file (p + 3 * n) 3 (fields_ok (label_count file) n (no
 -- the first n nodes
 unfoldable pub read_nodes : List ℕ → ℕ → ℕ → Result ℕ Refusal
 read_nodes file p zero = Ok p
-read_nodes file p (suc n) = and_then Err (read_nodes file p n) (λ _. read_node file p n)
+read_nodes file p (suc n) = and_then (read_nodes file p n) (λ _. read_node file p n)
 
 -- node n stands in the file, with its kind and fields in range
 pub record NodeOk (file : List ℕ) (p n : ℕ) : Type 0 where

@@ -45,10 +45,3 @@ pub struct Rule {
     pub nodes: usize,
     pub count: usize,
 }
-
-// What reading a file finds: its rule, or the refusal's number.
-#[derive(Clone, Copy)]
-pub enum RuleRead {
-    Rule(Rule),
-    Refused(u8),
-}

@@ -33,8 +33,8 @@ labels_all file (suc n) o =
     let p = label_start file n in
     let k = o n (omega arith) in
     let b = byte file p in
-    sym (then_at Err (read_labels file n) p (λ r. read_label file n r) _ (labels_all file n (λ i h. o i (omega arith)))
-    (then_at Err _ (p + 1) _ _
+    sym (then_at (read_labels file n) p (λ r. read_label file n r) _ (labels_all file n (λ i h. o i (omega arith)))
+    (then_at _ (p + 1) _ _
     (sym (part_ok file p 1 (leb 1 b && leb b 24) RuleLabel (omega (arith, k.room)) (simp (le-leb 1 b k.low, le-leb b 24 k.high))))
     (part_ok file (p + 1) b _ RuleLabel k.room (simp (k.form, k.fresh)))))
 
@@ -44,7 +44,7 @@ nodes_all file p zero o = let e : p ≡ p + 3 * 0 = omega arith in ap Ok e
 nodes_all file p (suc n) o =
     let k = o n (omega arith) in
     let e : p + 3 * n + 3 ≡ p + 3 * suc n = omega arith in
-    sym (then_at Err (read_nodes file p n) (p + 3 * n) (λ _. read_node file p n) _ (nodes_all file p n (λ i h. o i (omega arith)))
+    sym (then_at (read_nodes file p n) (p + 3 * n) (λ _. read_node file p n) _ (nodes_all file p n (λ i h. o i (omega arith)))
     (sym (ap Ok e) ∙ part_ok file (p + 3 * n) 3 _ RuleNode (omega (arith, k.room)) k.fields))
 
 good-each : (ls : List (List ℕ)) (i : ℕ) → good_labels? ls ≡ true → i < length ls → label_form? (get_or ls i []) ≡ true

@@ -16,7 +16,6 @@ use Rattle.rules.specs.Checks.{named_once, root_formula, whole_table}
 use Rattle.rules.specs.Rules.{rule_of, formula_of, Taken}
 use Rattle.rules.specs.declared.Rule.{Rule}
 use Rattle.std.specs.Prelude.{Ok}
-use Rattle.rules.specs.declared.RuleRead.{RuleRead}
 use Rattle.rules.proofs.Parts.{head_count, count_ok}
 use Rattle.rules.proofs.Rules.{rule_whole, rule_taken}
 use Rattle.atoms.specs.Tree.{Tree, size}
@@ -105,7 +104,7 @@ module _ (text tb₀ : List ℕ) (room : 192 ≤ length tb₀) (t : Tree) (known
   count_is : byte file p ≡ n
   count_is = ap (byte file) (sym (place_last text tb n ls)) ∙ count_nodes text tb n ls
 
-  whole : RuleRead.Rule rule ≡ whole_table file (p + 1) n
+  whole : Ok rule ≡ whole_table file (p + 1) n
   unfolding whole_table
   whole =
       let a : named_once file (p + 1) n ≡ true = report.one_tree in
@@ -113,7 +112,7 @@ module _ (text tb₀ : List ℕ) (room : 192 ≤ length tb₀) (t : Tree) (known
       let d : shallow 4 (root_formula file (p + 1) n) ≡ true = ap (shallow 4) report.formula ∙ ok.nested in
       sym (rw (a, b, d) refl)
 
-  pub file_rule : rule_of file ≡ RuleRead.Rule rule
+  pub file_rule : rule_of file ≡ Ok rule
   file_rule =
       let s = size_some t in
       let hr = head_read text tb n ls ok.labels in
@@ -123,7 +122,7 @@ module _ (text tb₀ : List ℕ) (room : 192 ≤ length tb₀) (t : Tree) (known
       let nodes_read : Ok (p + 1 + 3 * n) ≡ read_nodes file (p + 1) (byte file p) = sym (ap (read_nodes file (p + 1)) count_is ∙ nodes_all file (p + 1) n node_ok) in
       sym (rule_whole file (Ok 6) (head_count file (Ok 3) (Ok 5) 3 5 (Ok 6) (sym hr.0) refl (sym hr.1) refl (sym hr.2))
       6 refl (Ok p) labels_read p refl (Ok (p + 1)) count_read (p + 1) refl (Ok (p + 1 + 3 * n)) nodes_read (p + 1 + 3 * n) refl
-      (RuleRead.Rule rule) (sym (file-long text tb n ls)) (whole ∙ ap (whole_table file (p + 1)) (sym count_is)))
+      (Ok rule) (sym (file-long text tb n ls)) (whole ∙ ap (whole_table file (p + 1)) (sym count_is)))
 
   pub file-taken : Taken file rule
   file-taken = rule_taken file rule file_rule

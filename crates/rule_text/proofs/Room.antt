@@ -17,7 +17,9 @@ use Rattle.rules.specs.Table.{node_at, Good, formula_at}
 use Rattle.rules.specs.Checks.{times_named, once_below}
 use Rattle.rules.specs.Rules.{formula_of, Taken, ReadsRule}
 use Rattle.rules.specs.declared.Rule.{Rule}
-use Rattle.rules.specs.declared.RuleRead.{RuleRead}
+use Rattle.std.specs.Prelude.{Result, Ok, Err}
+use Rattle.refusals.specs.Refusal.{number}
+use Rattle.refusals.specs.declared.Refusal.{Refusal}
 use Rattle.grammar.proofs.RuleMet.{rule_met}
 use Rattle.grammar.proofs.Stands.{rule_says}
 use Rattle.rules.proofs.Formulas.{and_left_child, and_right_child, not_child, some_child, atom_fields, by_atom, formula-and, formula_not, formula_some, formula-has}
@@ -100,21 +102,21 @@ module _ (file before : List ℕ) where
     refused = λ c e l. absurd (omega arith);
   }
 
-  module _ (h : 4096 ≤ length before) (r : RuleRead) (y : ReadsRule file r) where
+  module _ (h : 4096 ≤ length before) (r : Result Rule Refusal) (y : ReadsRule file r) where
     asked : (t : Written) → t ≡ answer_of file r → t ≡ text_answer file (length before)
     unfolding text_answer
     asked t e = e ∙ (ap (answer_of file) y.answer ∙ sym (simp (le-ltb (length before) 4096 h)))
 
-    pub text_refused : (k : ℕ) → r ≡ RuleRead.Refused k → WritesText file before (Written.Refused k) before
+    pub text_refused : (k : Refusal) → r ≡ Err k → WritesText file before (Written.Refused (number k)) before
     text_refused k e = record {
-      answer = asked (Written.Refused k) (ap (answer_of file) (sym e));
+      answer = asked (Written.Refused (number k)) (ap (answer_of file) (sym e));
       left = refl;
       few = λ n q. no_length n _ q;
       means = λ n q. no_length n _ q;
-      refused = λ c q l. let z : k ≡ c = cc in (rule_met file c).0 (sym y.answer ∙ (e ∙ ap RuleRead.Refused z));
+      refused = λ c q l. let z : number k ≡ c = cc in (rule_met file c).0 (k, (sym y.answer ∙ e, z));
     }
 
-    module _ (x : Rule) (e : r ≡ RuleRead.Rule x) (lv : VarLevels) (el : levels_of lv ≡ no_levels) where
+    module _ (x : Rule) (e : r ≡ Ok x) (lv : VarLevels) (el : levels_of lv ≡ no_levels) where
       same_text_lem : write 0 (levels_of lv) (formula_of file x) [] ≡ text_of file x
       same_text_lem = ap (λ (l : ℕ → ℕ). write 0 l (formula_of file x) []) el ∙ write_text (formula_of file x)
 
@@ -136,7 +138,7 @@ module _ (file before : List ℕ) where
             answer = asked (Written.Length n) (ap Written.Length long ∙ ap (answer_of file) (sym e));
             left =
                 left ∙ (ap (λ (l : List ℕ). l ++ drop (length l) before) same_text_lem
-                ∙ (ap (λ (i : ℕ). text_of file x ++ drop i before) (sym long) ∙ ap (λ (q : RuleRead). bytes_of file q ++ drop n before) (sym e ∙ y.answer)));
+                ∙ (ap (λ (i : ℕ). text_of file x ++ drop i before) (sym long) ∙ ap (λ (q : Result Rule Refusal). bytes_of file q ++ drop n before) (sym e ∙ y.answer)));
             means = λ m q. (let z : n ≡ m = cc in (
               formula_of file x,
               rule_says file x (sym y.answer ∙ e),
@@ -147,5 +149,5 @@ module _ (file before : List ℕ) where
             few = λ m q. let z : n ≡ m = cc in omega (arith, text_short file x (y.taken x e));
           }
 
-    pub text_some : (x : Rule) → r ≡ RuleRead.Rule x → 1 ≤ x.count
+    pub text_some : (x : Rule) → r ≡ Ok x → 1 ≤ x.count
     text_some x e = (y.taken x e).nodes_some

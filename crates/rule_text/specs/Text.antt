@@ -8,7 +8,9 @@ use Rattle.rules.specs.Table.{formula_from, formula_at, Good}
 use Rattle.rules.specs.Rules.{rule_of, formula_of}
 use Rattle.rules.specs.declared.Node.{Node}
 use Rattle.rules.specs.declared.Rule.{Rule}
-use Rattle.rules.specs.declared.RuleRead.{RuleRead}
+use Rattle.std.specs.Prelude.{Result, Ok, Err}
+use Rattle.refusals.specs.Refusal.{number}
+use Rattle.refusals.specs.declared.Refusal.{Refusal}
 use Rattle.grammar.specs.MetRule.{MetRule}
 use Rattle.grammar.specs.Stands.{RuleFile}
 use Rattle.levels.specs.declared.VarLevels.{VarLevels}
@@ -48,13 +50,13 @@ abbrev pub text_of : List ℕ → Rule → List ℕ
 text_of file x = rule_text (formula_of file x)
 
 -- 20 before all else; then the rule's refusals
-abbrev pub answer_of : List ℕ → RuleRead → Written
-answer_of file (RuleRead.Rule x) = Written.Length (length (text_of file x))
-answer_of file (RuleRead.Refused k) = Written.Refused k
+abbrev pub answer_of : List ℕ → Result Rule Refusal → Written
+answer_of file (Ok x) = Written.Length (length (text_of file x))
+answer_of file (Err e) = Written.Refused (number e)
 
-abbrev pub bytes_of : List ℕ → RuleRead → List ℕ
-bytes_of file (RuleRead.Rule x) = text_of file x
-bytes_of file (RuleRead.Refused k) = []
+abbrev pub bytes_of : List ℕ → Result Rule Refusal → List ℕ
+bytes_of file (Ok x) = text_of file x
+bytes_of file (Err e) = []
 
 -- "in a buffer of at least 4,096 bytes"
 abbrev pub text_room : ℕ

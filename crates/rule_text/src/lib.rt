@@ -24,8 +24,8 @@ pub fn text_from_rule(file: &[u8], out: &mut [u8]) -> Written
     }
     let read = rule_file::read_rule(file);
     match read {
-        rules::RuleRead::Refused(k) => Written::Refused(k),
-        rules::RuleRead::Rule(x) => {
+        Err(e) => Written::Refused(u8::from(e)),
+        Ok(x) => {
             let first = x.nodes;
             let root = x.count - 1;
             let none = levels::no_levels();

@@ -14,32 +14,35 @@ use Rattle.trace.specs.Trace.{Trace}
 use Rattle.pairs.specs.declared.Layout.{Layout}
 use Rattle.pairs.specs.Layout.{work_size}
 use Rattle.rules.specs.declared.Rule.{Rule}
-use Rattle.rules.specs.declared.RuleRead.{RuleRead}
+use Rattle.std.specs.Prelude.{Result, Ok, Err}
+use Rattle.refusals.specs.Refusal.{number}
+use Rattle.refusals.specs.declared.Refusal.{Refusal}
 use Rattle.rules.specs.Rules.{rule_of, Taken, ReadsRule}
 use Rattle.single.specs.declared.Checked.{Checked}
 use Rattle.reading.specs.Left.{Left, Standing}
 use Rattle.single.specs.Handed.{HandedBy, Reached}
 use Rattle.single.specs.Line.{refusing, state_of, with_rule, line_of, LineMeans, ChecksLine}
 use Rattle.single.specs.Step.{Advances}
+use Rattle.rules.proofs.Parts.{not_ok}
 use Rattle.reading.proofs.Standing.{pairs_long}
 use Rattle.single.proofs.LineMeans.{line_means}
 
 -- ── rules ──
-pub with_refused : {A : Type 0} (q : RuleRead) (n : ℕ) (f : ℕ → A) (g : Rule → A) → q ≡ RuleRead.Refused n → with_rule q f g ≡ f n
+pub with_refused : {A : Type 0} (q : Result Rule Refusal) (n : Refusal) (f : ℕ → A) (g : Rule → A) → q ≡ Err n → with_rule q f g ≡ f (number n)
 unfolding with_rule
-with_refused {A} q n f g e = ap (λ (y : RuleRead). with_rule y f g) e
+with_refused {A} q n f g e = ap (λ (y : Result Rule Refusal). with_rule y f g) e
 
-pub with_taken : {A : Type 0} (q : RuleRead) (x : Rule) (f : ℕ → A) (g : Rule → A) → q ≡ RuleRead.Rule x → with_rule q f g ≡ g x
+pub with_taken : {A : Type 0} (q : Result Rule Refusal) (x : Rule) (f : ℕ → A) (g : Rule → A) → q ≡ Ok x → with_rule q f g ≡ g x
 unfolding with_rule
-with_taken {A} q x f g e = ap (λ (y : RuleRead). with_rule y f g) e
+with_taken {A} q x f g e = ap (λ (y : Result Rule Refusal). with_rule y f g) e
 
-pub no_rule : {C : Type 0} (q : RuleRead) (n : ℕ) (x : Rule) → q ≡ RuleRead.Refused n → q ≡ RuleRead.Rule x → C
-no_rule q n x e f = absurd (let z : ◌≡◌ {A = ℕ} 0 1 = cc in omega arith)
+pub no_rule : {C : Type 0} (q : Result Rule Refusal) (n : Refusal) (x : Rule) → q ≡ Err n → q ≡ Ok x → C
+no_rule q n x e f = not_ok n x (sym e ∙ f)
 
-pub one_rule : (q : RuleRead) (x y : Rule) → q ≡ RuleRead.Rule x → q ≡ RuleRead.Rule y → x ≡ y
+pub one_rule : (q : Result Rule Refusal) (x y : Rule) → q ≡ Ok x → q ≡ Ok y → x ≡ y
 one_rule q x y e f = cc
 
-pub rule_taken : (file : List ℕ) (q : RuleRead) (x : Rule) → ReadsRule file q → q ≡ RuleRead.Rule x → Taken file x
+pub rule_taken : (file : List ℕ) (q : Result Rule Refusal) (x : Rule) → ReadsRule file q → q ≡ Ok x → Taken file x
 rule_taken file q x rd e = rd.taken x e
 
 -- ── what is handed in ──
@@ -64,22 +67,22 @@ module _ (lay : Layout) (file : List ℕ) (r : Record) (w line : List ℕ) where
         meaning = λ x e log t l. absurd (omega (arith, pairs_long lay t w w l.pairs));
       }
 
-  module _ (m : ℕ) (size : m ≡ work_size lay) (room : m ≤ length w) (q : RuleRead) (rd : ReadsRule file q) where
+  module _ (m : ℕ) (size : m ≡ work_size lay) (room : m ≤ length w) (q : Result Rule Refusal) (rd : ReadsRule file q) where
     long : work_size lay ≤ length w
     long = omega arith
 
-    pub line_unruled : (n : ℕ) → q ≡ RuleRead.Refused n → ChecksLine lay file r w line (refusing r n) w
+    pub line_unruled : (n : Refusal) → q ≡ Err n → ChecksLine lay file r w line (refusing r (number n)) w
     unfolding line_of
     line_unruled n e =
-        let p : rule_of file ≡ RuleRead.Refused n = sym rd.answer ∙ e in
+        let p : rule_of file ≡ Err n = sym rd.answer ∙ e in
         record {
           decided = λ k. no_rule (rule_of file) n k.rule p k.taken;
           answer = λ k f. simp (le-ltb (length w) (work_size lay) long) (sym (with_refused (rule_of file) n _ _ p));
           meaning = λ x g log t l. no_rule (rule_of file) n x p g;
         }
 
-    module _ (x : Rule) (e : q ≡ RuleRead.Rule x) (b : Bool) (k : Tells b (Standing lay r w)) where
-      pub rule_here : rule_of file ≡ RuleRead.Rule x
+    module _ (x : Rule) (e : q ≡ Ok x) (b : Bool) (k : Tells b (Standing lay r w)) where
+      pub rule_here : rule_of file ≡ Ok x
       rule_here = sym rd.answer ∙ e
 
       pub reached : Reached lay file w

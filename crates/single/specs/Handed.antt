@@ -6,7 +6,7 @@ use Rattle.trace.specs.Trace.{Trace}
 use Rattle.pairs.specs.declared.Layout.{Layout}
 use Rattle.pairs.specs.Layout.{work_size}
 use Rattle.rules.specs.declared.Rule.{Rule}
-use Rattle.rules.specs.declared.RuleRead.TheVariants as RuleRead
+use Rattle.std.specs.Prelude.{Ok}
 use Rattle.rules.specs.Rules.{rule_of}
 use Rattle.reading.specs.Left.{Left, Unknown}
 
@@ -20,4 +20,4 @@ HandedBy lay r w (some t) = (log : List ℕ) × Left lay log t r w
 pub record Reached (lay : Layout) (file w : List ℕ) : Type 0 where
   pub long : work_size lay ≤ length w
   pub rule : Rule
-  pub taken : rule_of file ≡ RuleRead.Rule rule
+  pub taken : rule_of file ≡ Ok rule

@@ -8,7 +8,9 @@ use Rattle.pairs.specs.declared.Layout.{Layout}
 use Rattle.pairs.specs.Layout.{work_size}
 use Rattle.pairs.specs.Pairs.{work_of}
 use Rattle.rules.specs.declared.Rule.{Rule}
-use Rattle.rules.specs.declared.RuleRead.{RuleRead}
+use Rattle.std.specs.Prelude.{Result, Ok, Err}
+use Rattle.refusals.specs.Refusal.{number}
+use Rattle.refusals.specs.declared.Refusal.{Refusal}
 use Rattle.rules.specs.Rules.{rule_of, formula_of}
 use Rattle.logic.specs.declared.Verdict.{Verdict}
 use Rattle.logic.specs.Verdict.{verdict_of, Says}
@@ -40,9 +42,9 @@ unfoldable pub state_of : Layout → List ℕ → Rule → Record → List ℕ �
 state_of lay file x r w line (some t) = advance_of lay file x t w line
 state_of lay file x r w line none = (refusing r 21, w)
 
-unfoldable pub with_rule : {A : Type 0} → RuleRead → (ℕ → A) → (Rule → A) → A
-with_rule (RuleRead.Rule x) f g = g x
-with_rule (RuleRead.Refused n) f g = f n
+unfoldable pub with_rule : {A : Type 0} → Result Rule Refusal → (ℕ → A) → (Rule → A) → A
+with_rule (Ok x) f g = g x
+with_rule (Err e) f g = f (number e)
 
 -- "Order: 20; then the rule from its front ..; then 21; ..; then the line": the answer, and the work area after it
 unfoldable pub line_of : Layout → List ℕ → Record → List ℕ → List ℕ → Option Trace → Checked × List ℕ
@@ -75,4 +77,4 @@ pub record LineMeans (lay : Layout) (file : List ℕ) (x : Rule) (log : List ℕ
 pub record ChecksLine (lay : Layout) (file : List ℕ) (r : Record) (w line : List ℕ) (a : Checked) (w' : List ℕ) : Type 0 where
   pub decided : Reached lay file w → (k : Option Trace) × HandedBy lay r w k
   pub answer : (k : Option Trace) → (Reached lay file w → HandedBy lay r w k) → ◌≡◌ {A = Checked × List ℕ} (a, w') (line_of lay file r w line k)
-  pub meaning : (x : Rule) → rule_of file ≡ RuleRead.Rule x → (log : List ℕ) (t : Trace) → Left lay log t r w → LineMeans lay file x log t r w line a w'
+  pub meaning : (x : Rule) → rule_of file ≡ Ok x → (log : List ℕ) (t : Trace) → Left lay log t r w → LineMeans lay file x log t r w line a w'

@@ -8,7 +8,6 @@ ghost use Rattle.std.specs.Prelude.{◌≡◌};
 ghost use Rattle.single.specs.Line.{ChecksLine};
 
 use pairs::Layout;
-use rules::RuleRead;
 pub use step::advance;
 use trace::Record;
 
@@ -42,13 +41,13 @@ pub fn check_line(layout: Layout, file: &[u8], r: Record, work: &mut [u8], line:
     }
     let x = rule_file::read_rule(file);
     match x {
-        RuleRead::Refused(n) => {
+        Err(e) => {
             return Checked {
                 state: r,
-                outcome: Outcome::Refused(n),
+                outcome: Outcome::Refused(u8::from(e)),
             };
         }
-        RuleRead::Rule(rule) => {
+        Ok(rule) => {
             if !reading::known(layout, r, work) {
                 return Checked {
                     state: r,

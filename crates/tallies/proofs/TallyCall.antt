@@ -15,7 +15,9 @@ use Rattle.trace.proofs.Bounds.{accepted-bounded}
 use Rattle.pairs.specs.declared.Layout.{Layout}
 use Rattle.pairs.specs.Layout.{work_size}
 use Rattle.rules.specs.declared.Rule.{Rule}
-use Rattle.rules.specs.declared.RuleRead.{RuleRead}
+use Rattle.std.specs.Prelude.{Result, Ok, Err}
+use Rattle.refusals.specs.Refusal.{number}
+use Rattle.refusals.specs.declared.Refusal.{Refusal}
 use Rattle.rules.specs.Rules.{rule_of, formula_of, ReadsRule}
 use Rattle.logic.specs.Verdict.{verdict_of}
 use Rattle.single.specs.declared.Checked.{Checked}
@@ -75,20 +77,20 @@ module _ (lay : Layout) (file : List ℕ) (r : Record) (y : Tally) (w line : Lis
       let h : length w < work_size lay = omega arith in
       checks-tallied lay file r y w line a w (λ k f. simp (lt-ltb (length w) (work_size lay) h) (same 20 e)) (not_reached lay file w h)
 
-  module _ (m : ℕ) (size : m ≡ work_size lay) (room : m ≤ length w) (q : RuleRead) (rd : ReadsRule file q) where
+  module _ (m : ℕ) (size : m ≡ work_size lay) (room : m ≤ length w) (q : Result Rule Refusal) (rd : ReadsRule file q) where
     long : work_size lay ≤ length w
     long = omega arith
 
-    pub tallied-unruled : (n : ℕ) → q ≡ RuleRead.Refused n → a ≡ refusing_with r y n → ChecksTallied lay file r y w line a w
+    pub tallied-unruled : (n : Refusal) (m : ℕ) → q ≡ Err n → m ≡ number n → a ≡ refusing_with r y m → ChecksTallied lay file r y w line a w
     unfolding tallied_of
-    tallied-unruled n e s =
-        let p : rule_of file ≡ RuleRead.Refused n = sym rd.answer ∙ e in
+    tallied-unruled n m e g s =
+        let p : rule_of file ≡ Err n = sym rd.answer ∙ e in
         checks-tallied lay file r y w line a w
-        (λ k f. simp (le-ltb (length w) (work_size lay) long) (same n s ∙ sym (with_refused (rule_of file) n _ _ p)))
+        (λ k f. simp (le-ltb (length w) (work_size lay) long) (same (number n) (s ∙ ap (refusing_with r y) g) ∙ sym (with_refused (rule_of file) n _ _ p)))
         (λ k. no_rule (rule_of file) n k.rule p k.taken)
 
-    module _ (x : Rule) (e : q ≡ RuleRead.Rule x) (b : Bool) (k : Tells b (Standing lay r w)) where
-      rule_here : rule_of file ≡ RuleRead.Rule x
+    module _ (x : Rule) (e : q ≡ Ok x) (b : Bool) (k : Tells b (Standing lay r w)) where
+      rule_here : rule_of file ≡ Ok x
       rule_here = sym rd.answer ∙ e
 
       reached : Reached lay file w

@@ -22,7 +22,8 @@ use Rattle.trace.proofs.Induction.{accepted-keeps}
 use Rattle.pairs.specs.declared.Layout.{Layout}
 use Rattle.pairs.specs.Layout.{work_size}
 use Rattle.rules.specs.declared.Rule.{Rule}
-use Rattle.rules.specs.declared.RuleRead.{RuleRead}
+use Rattle.std.specs.Prelude.{Result, Ok, Err}
+use Rattle.refusals.specs.declared.Refusal.{Refusal}
 use Rattle.rules.specs.Rules.{rule_of, formula_of}
 use Rattle.rules.proofs.Rules.{reads_rule}
 use Rattle.logic.specs.declared.Verdict.{Verdict}
@@ -86,13 +87,13 @@ module _ (lay : Layout) (file : List ℕ) (r : Record) (y : Tally) (w line : Lis
       by_answer_lem x (next u) = refl
       by_answer_lem x (refused c) = refl
 
-      by_rule : (q : RuleRead) → line_part (with_rule q (λ n. (refusing_with r y n, w)) (λ x. tallied_state lay file x r y w line (some t)))
+      by_rule : (q : Result Rule Refusal) → line_part (with_rule q (λ n. (refusing_with r y n, w)) (λ x. tallied_state lay file x r y w line (some t)))
           ≡ with_rule q (λ n. (refusing r n, w)) (λ x. state_of lay file x r w line (some t))
-      by_rule (RuleRead.Rule x) = simp p (by_answer_lem x (step (next t) line))
-      by_rule (RuleRead.Refused n) = refl
+      by_rule (Ok x) = simp p (by_answer_lem x (step (next t) line))
+      by_rule (Err n) = refl
 
   -- so its answer means the same
-  module _ (x : Rule) (rule : rule_of file ≡ RuleRead.Rule x) (log : List ℕ) (t : Trace) (l : Left lay log t r w) (p : counts? t y ≡ true) (a : Tallied) (v : List ℕ) (answer : ◌≡◌ {A = Tallied × List ℕ} (a, v) (tallied_of lay file r y w line (some t))) where
+  module _ (x : Rule) (rule : rule_of file ≡ Ok x) (log : List ℕ) (t : Trace) (l : Left lay log t r w) (p : counts? t y ≡ true) (a : Tallied) (v : List ℕ) (answer : ◌≡◌ {A = Tallied × List ℕ} (a, v) (tallied_of lay file r y w line (some t))) where
     long : work_size lay ≤ length w
     long = pairs_long lay t w w l.pairs
 
@@ -101,7 +102,7 @@ module _ (lay : Layout) (file : List ℕ) (r : Record) (y : Tally) (w line : Lis
     line_part_means =
         let e : ◌≡◌ {A = Checked × List ℕ} (untallied a, v) (line_of lay file r w line (some t)) = ap line_part answer ∙ tallied_is_line t p in
         let s : line_of lay file r w line (some t) ≡ state_of lay file x r w line (some t) = simp (le-ltb (length w) (work_size lay) long) (with_taken (rule_of file) x _ _ rule) in
-        line_means lay file x t w line (untallied a) v (e ∙ s) ((reads_rule file (RuleRead.Rule x) (sym rule)).taken x refl) log r l.accepted l.encoded
+        line_means lay file x t w line (untallied a) v (e ∙ s) ((reads_rule file (Ok x) (sym rule)).taken x refl) log r l.accepted l.encoded
 
     answer_is : ◌≡◌ {A = Tallied × List ℕ} (a, v) (tallied_after lay file x t y w (step (next t) line))
     unfolding tallied_of tallied_state

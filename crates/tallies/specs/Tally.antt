@@ -13,7 +13,7 @@ use Rattle.pairs.specs.declared.Layout.{Layout}
 use Rattle.pairs.specs.Layout.{work_size}
 use Rattle.pairs.specs.Pairs.{work_of}
 use Rattle.rules.specs.declared.Rule.{Rule}
-use Rattle.rules.specs.declared.RuleRead.TheVariants as RuleRead
+use Rattle.std.specs.Prelude.{Ok}
 use Rattle.rules.specs.Rules.{rule_of, formula_of}
 use Rattle.logic.specs.declared.Verdict.{Verdict}
 use Rattle.logic.specs.Verdict.{verdict_of}
@@ -153,7 +153,7 @@ pub record TalliedMeans (lay : Layout) (file : List ℕ) (x : Rule) (log : List 
 pub record ChecksTallied (lay : Layout) (file : List ℕ) (r : Record) (y : Tally) (w line : List ℕ) (a : Tallied) (w' : List ℕ) : Type 0 where
   pub decided : Reached lay file w → (k : Option Trace) × HandedBy lay r w k
   pub answer : (k : Option Trace) → (Reached lay file w → HandedBy lay r w k) → ◌≡◌ {A = Tallied × List ℕ} (a, w') (tallied_of lay file r y w line k)
-  pub meaning : (x : Rule) → rule_of file ≡ RuleRead.Rule x → (log : List ℕ) (t : Trace) → Left lay log t r w → counts? t y ≡ true
+  pub meaning : (x : Rule) → rule_of file ≡ Ok x → (log : List ℕ) (t : Trace) → Left lay log t r w → counts? t y ≡ true
       → TalliedMeans lay file x log t r y w line a w'
 
 -- the answer with a tally

@@ -8,7 +8,6 @@ ghost use Rattle.tallies.specs.Tally.{ChecksTallied};
 
 pub use counts::tally_of;
 use pairs::Layout;
-use rules::RuleRead;
 use single::Outcome;
 use trace::Record;
 
@@ -49,8 +48,8 @@ pub fn check_line_tallied(
     }
     let x = rule_file::read_rule(file);
     match x {
-        RuleRead::Refused(n) => return counts::refuse_tallied(r, y, n),
-        RuleRead::Rule(rule) => {
+        Err(e) => return counts::refuse_tallied(r, y, u8::from(e)),
+        Ok(rule) => {
             if !reading::known(layout, r, work) {
                 return counts::refuse_tallied(r, y, 21);
             }

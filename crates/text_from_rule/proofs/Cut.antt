@@ -8,7 +8,10 @@ use lib.ListN.{length, take}
 use lib.Seq.{take_all}
 use Rattle.lists.proofs.Cases.{either_lt}
 use Rattle.rules.specs.Rules.{rule_of}
-use Rattle.rules.specs.declared.RuleRead.{RuleRead}
+use Rattle.std.specs.Prelude.{Result, Ok, Err}
+use Rattle.refusals.specs.Refusal.{number}
+use Rattle.refusals.specs.declared.Refusal.{Refusal}
+use Rattle.rules.specs.declared.Rule.{Rule}
 use Rattle.rules.proofs.Rules.{rule_taken}
 use Rattle.rules.proofs.Cut.{first_bytes_decide_rule}
 use Rattle.rule_text.specs.Text.{answer_of, bytes_of, text_answer}
@@ -17,15 +20,15 @@ use Rattle.output.specs.declared.Written.TheVariants.{Refused}
 use Rattle.told.specs.Told.{refusal_line, output_of, error_of}
 use Rattle.text_from_rule.specs.Printed.{rule_room, text_size, text_printed, refusal_printed}
 
-refused : (file : List ℕ) (c : ℕ) → rule_of file ≡ RuleRead.Refused c → text_answer file text_size ≡ Refused c
+refused : (file : List ℕ) (e : Refusal) → rule_of file ≡ Err e → text_answer file text_size ≡ Refused (number e)
 unfolding text_answer
-refused file c e = ap (answer_of file) e
+refused file r e = ap (answer_of file) e
 
 -- what the refusal's number decides for a refused file is decided by the first bytes
-module _ (f : List ℕ → List ℕ) (s : ℕ → List ℕ) (told : (file : List ℕ) (c : ℕ) → rule_of file ≡ RuleRead.Refused c → f file ≡ s c) where
-  long-file : (file : List ℕ) → 600 ≤ length file → (r : RuleRead) → rule_of file ≡ r → f (take rule_room file) ≡ f file
-  long-file file h (RuleRead.Rule x) e = absurd (omega (arith, (rule_taken file x e).size))
-  long-file file h (RuleRead.Refused c) e = told (take rule_room file) c (first_bytes_decide_rule file ∙ e) ∙ sym (told file c e)
+module _ (f : List ℕ → List ℕ) (s : ℕ → List ℕ) (told : (file : List ℕ) (e : Refusal) → rule_of file ≡ Err e → f file ≡ s (number e)) where
+  long-file : (file : List ℕ) → 600 ≤ length file → (r : Result Rule Refusal) → rule_of file ≡ r → f (take rule_room file) ≡ f file
+  long-file file h (Ok x) e = absurd (omega (arith, (rule_taken file x e).size))
+  long-file file h (Err c) e = told (take rule_room file) c (first_bytes_decide_rule file ∙ e) ∙ sym (told file c e)
 
   first_bytes_decide : (file : List ℕ) → f (take rule_room file) ≡ f file
   first_bytes_decide file =

@@ -7,7 +7,9 @@ use Rattle.lists.proofs.Cases.{never}
 use Rattle.input.specs.declared.Filled.{Filled}
 use Rattle.input.specs.declared.Filled.TheVariants.{Bytes, Failed}
 use Rattle.rules.specs.Rules.{rule_of}
-use Rattle.rules.specs.declared.RuleRead.{RuleRead}
+use Rattle.std.specs.Prelude.{Result, Ok, Err}
+use Rattle.refusals.specs.declared.Refusal.{Refusal}
+use Rattle.rules.specs.declared.Rule.{Rule}
 use Rattle.rule_text.specs.Text.{answer_of, bytes_of, text_answer, WritesText}
 use Rattle.output.specs.declared.Written.{Written}
 use Rattle.output.specs.declared.Written.TheVariants.{Length}
@@ -17,9 +19,9 @@ use Rattle.text_from_rule.specs.Printed.{rule_room, text_size, text_printed, ref
 use Rattle.text_from_rule.proofs.Cut.{first_bytes_decide_text, first_bytes_decide_refusal}
 
 -- the length that is answered is that of the text
-read_length : (file : List ℕ) (r : RuleRead) (m : ℕ) → answer_of file r ≡ Length m → m ≡ length (bytes_of file r)
-read_length file (RuleRead.Rule x) m e = cc
-read_length file (RuleRead.Refused c) m e = never cc
+read_length : (file : List ℕ) (r : Result Rule Refusal) (m : ℕ) → answer_of file r ≡ Length m → m ≡ length (bytes_of file r)
+read_length file (Ok x) m e = cc
+read_length file (Err r) m e = never cc
 
 answer_length : (file : List ℕ) (m : ℕ) → text_answer file text_size ≡ Length m → m ≡ length (bytes_of file (rule_of file))
 unfolding text_answer

@@ -4,8 +4,8 @@ use Rattle.single.proofs.check_line.Goals as goal
 pub returns-then-work-end : goal.returns-then-work-end
 returns-then-work-end c = search line_short
 
-pub returns-in-Refused : goal.returns-in-Refused
-returns-in-Refused c = search line_unruled
+pub returns-in-Err : goal.returns-in-Err
+returns-in-Err c = rw c.from.ensures (search line_unruled)
 
 pub returns-then-not-known : goal.returns-then-not-known
 returns-then-not-known c = search line_unknown
@@ -13,5 +13,5 @@ returns-then-not-known c = search line_unknown
 pub advance-requires : goal.advance-requires
 advance-requires c = record { taken = search rule_taken; standing = search (standing_known, c.known.ensures) }
 
-pub returns-in-Rule : goal.returns-in-Rule
-returns-in-Rule c = search line_known
+pub returns-in-Ok : goal.returns-in-Ok
+returns-in-Ok c = search line_known

@@ -20,7 +20,8 @@ use Rattle.pairs.specs.declared.Layout.{Layout}
 use Rattle.pairs.specs.Layout.{work_size}
 use Rattle.pairs.specs.Pairs.{work_of}
 use Rattle.rules.specs.declared.Rule.{Rule}
-use Rattle.rules.specs.declared.RuleRead.{RuleRead}
+use Rattle.std.specs.Prelude.{Result, Ok, Err}
+use Rattle.refusals.specs.declared.Refusal.{Refusal}
 use Rattle.rules.specs.Limits.{max_file_bytes}
 use Rattle.rules.specs.Formula.{Formula}
 use Rattle.rules.specs.Rules.{rule_of, formula_of}
@@ -35,7 +36,7 @@ use Rattle.tallies.specs.declared.Tally.{Tally}
 use Rattle.tallies.specs.declared.Tallied.{Tallied}
 use Rattle.tallies.specs.Tally.{counts?, failed, tally_of, refusing_with, tallied_after, tallied_state, tallied_of}
 use Rattle.report.specs.declared.Reported.TheVariants as Reported
-use Rattle.report.specs.Report.{Result, report_size, report_of}
+use Rattle.report.specs.Report.{Result as Made, report_size, report_of}
 use Rattle.report.specs.Calls.{LineCall, TalliedCall, LogCall, log_part, ReportCall, report_part}
 use Rattle.report.specs.Text.{line_text, text_from, report_text}
 use Rattle.reading.specs.declared.LogRead.{LogRead}
@@ -155,23 +156,25 @@ module _ (file file' : List ℕ) (x : Rule) (f : formula_of file x ≡ formula_o
       ∙ ap (λ (v : Verdict). line_text u.lines v ++ text_from file' x u (n + failed v) ms) (verdict_same u))
 
 -- ── rule files in another case ──
-with_rule_lem : {A : Type 0} (q r : RuleRead) (f : ℕ → A) (g h : Rule → A) → q ≡ r → ((x : Rule) → q ≡ RuleRead.Rule x → g x ≡ h x) → with_rule q f g ≡ with_rule r f h
+with_rule_lem : {A : Type 0} (q r : Result Rule Refusal) (f : ℕ → A) (g h : Rule → A) → q ≡ r → ((x : Rule) → q ≡ Ok x → g x ≡ h x) → with_rule q f g ≡ with_rule r f h
 unfolding with_rule
-with_rule_lem {A} q r f g h e s = go q s ∙ ap (λ (z : RuleRead). with_rule z f h) e
+with_rule_lem {A} q r f g h e s = go q s ∙ ap (λ (z : Result Rule Refusal). with_rule z f h) e
   where
-    go : (z : RuleRead) → ((x : Rule) → z ≡ RuleRead.Rule x → g x ≡ h x) → with_rule z f g ≡ with_rule z f h
-    go (RuleRead.Rule x) k = k x refl
-    go (RuleRead.Refused n) k = refl
+    go : (z : Result Rule Refusal) → ((x : Rule) → z ≡ Ok x → g x ≡ h x) → with_rule z f g ≡ with_rule z f h
+    go (Ok x) k = k x refl
+    go (Err n) k = refl
 
 module _ (file file' : List ℕ) (p : RecasedRule file file') where
   rule_same : rule_of file ≡ rule_of file'
   rule_same = rule_recased file file' p
 
-  formula_same : (x : Rule) → rule_of file ≡ RuleRead.Rule x → formula_of file x ≡ formula_of file' x
+  formula_same : (x : Rule) → rule_of file ≡ Ok x → formula_of file x ≡ formula_of file' x
   formula_same = formula_recased file file' p
 
   met_same : (c : ℕ) → MetRule file c → MetRule file' c
-  met_same c m = (rule_met file' c).0 (sym rule_same ∙ (rule_met file c).1 m)
+  met_same c m =
+      let w = (rule_met file c).1 m in
+      (rule_met file' c).0 (w.0, (sym rule_same ∙ w.1.0, w.1.1))
 
   file_same : (f : Formula) → RuleFile file f → RuleFile file' f
   file_same f r =
@@ -179,7 +182,7 @@ module _ (file file' : List ℕ) (p : RecasedRule file file') where
       subst (RuleFile file') (sym (formula_same v.0 v.1) ∙ v.2) (rule_says file' v.0 (sym rule_same ∙ v.1))
 
   -- ── a whole log ──
-  module _ (log log' : List ℕ) (lines : (x : Rule) → rule_of file ≡ RuleRead.Rule x → Alike (lines_of log) (lines_of log')) where
+  module _ (log log' : List ℕ) (lines : (x : Rule) → rule_of file ≡ Ok x → Alike (lines_of log) (lines_of log')) where
     log_alike : (lay : Layout) (w out : List ℕ) → log_of lay file log w out ≡ log_of lay file' log' w out
     unfolding log_of
     log_alike lay w out =
@@ -199,7 +202,7 @@ module _ (file file' : List ℕ) (p : RecasedRule file file') where
         (Reported.Length (length (s i)), (l i).1, (l i).2, s i ++ drop (length (s i)) text)
 
   -- the part that is read
-  part_alike : (mode : Mode) (log log' : List ℕ) → RecasedLog log log' → (x : Rule) → rule_of file ≡ RuleRead.Rule x → Alike (lines_of (read_part mode file log)) (lines_of (read_part mode file' log'))
+  part_alike : (mode : Mode) (log log' : List ℕ) → RecasedLog log log' → (x : Rule) → rule_of file ≡ Ok x → Alike (lines_of (read_part mode file log)) (lines_of (read_part mode file' log'))
   unfolding lines_read
   part_alike mode log log' q x e =
       subst (λ (ls : List (List ℕ)). Alike ls (lines_of (read_part mode file' log'))) (lines_of_part file x e mode log)
@@ -299,16 +302,16 @@ log_case j k p =
 
 report_case : (j k : ReportCall) → RecasedReport j k → SameLeftReport j k
 report_case j k p =
-    let e : ◌≡◌ {A = Result} (j.answer, j.work', j.verdicts', j.text') (k.answer, k.work', k.verdicts', k.text') =
+    let e : ◌≡◌ {A = Made} (j.answer, j.work', j.verdicts', j.text') (k.answer, k.work', k.verdicts', k.text') =
     j.reports.reports.answer
     ∙ ((λ i. report_of (p.layout i) j.file (read_part (p.mode i) j.file j.log) (p.work i) (p.verdicts i) (p.text i))
     ∙ (report-alike j.file k.file p.file (read_part k.mode j.file j.log) (report_part k) (part_alike j.file k.file p.file k.mode j.log k.log p.log) k.layout k.work k.verdicts k.text
     ∙ sym k.reports.reports.answer)) in
     record {
-      answer = ap (λ (z : Result). z.0) e;
-      work = ap (λ (z : Result). z.1) e;
-      verdicts = ap (λ (z : Result). z.2) e;
-      text = ap (λ (z : Result). z.3) e;
+      answer = ap (λ (z : Made). z.0) e;
+      work = ap (λ (z : Made). z.1) e;
+      verdicts = ap (λ (z : Made). z.2) e;
+      text = ap (λ (z : Made). z.3) e;
     }
 
 -- ── typed rules ──
@@ -352,16 +355,16 @@ reading_case j k p e =
 
 -- ── the text of a rule file ──
 module _ (file file' : List ℕ) (p : RecasedRule file file') where
-  text_of_rule : (q : RuleRead) → rule_of file ≡ q → Text.bytes_of file q ≡ Text.bytes_of file' q
-  text_of_rule (RuleRead.Rule x) e = ap rule_text (formula_same file file' p x e)
-  text_of_rule (RuleRead.Refused n) e = refl
+  text_of_rule : (q : Result Rule Refusal) → rule_of file ≡ q → Text.bytes_of file q ≡ Text.bytes_of file' q
+  text_of_rule (Ok x) e = ap rule_text (formula_same file file' p x e)
+  text_of_rule (Err n) e = refl
 
   written_same : Text.bytes_of file (rule_of file) ≡ Text.bytes_of file' (rule_of file')
   written_same = text_of_rule (rule_of file) refl ∙ ap (Text.bytes_of file') (rule_same file file' p)
 
-  answered : (q : RuleRead) → rule_of file ≡ q → Text.answer_of file q ≡ Text.answer_of file' q
-  answered (RuleRead.Rule x) e = ap (λ (f : Formula). Written.Length (length (rule_text f))) (formula_same file file' p x e)
-  answered (RuleRead.Refused n) e = refl
+  answered : (q : Result Rule Refusal) → rule_of file ≡ q → Text.answer_of file q ≡ Text.answer_of file' q
+  answered (Ok x) e = ap (λ (f : Formula). Written.Length (length (rule_text f))) (formula_same file file' p x e)
+  answered (Err n) e = refl
 
   text_answer_same : (room : ℕ) → text_answer file room ≡ text_answer file' room
   unfolding text_answer
@@ -382,31 +385,31 @@ slip_case : {A : Type 0} (file file' : List ℕ) (p : RecasedRule file file') (r
     → SlipCall file r (λ n. a ≡ answer n) (says a) → SlipCall file' r (λ n. b ≡ answer n) (says b) → a ≡ b
 slip_case {A} file file' p r a b answer says one j k = by_rule (rule_of file) refl
   where
-    other : {q : RuleRead} → rule_of file ≡ q → rule_of file' ≡ q
+    other : {q : Result Rule Refusal} → rule_of file ≡ q → rule_of file' ≡ q
     other e = sym (rule_same file file' p) ∙ e
 
-    known : (x : Rule) (e : rule_of file ≡ RuleRead.Rule x) (s : SlipForm (formula_of file x)) → Valid r → a ≡ b
+    known : (x : Rule) (e : rule_of file ≡ Ok x) (s : SlipForm (formula_of file x)) → Valid r → a ≡ b
     known x e s v =
         one v.trace (formula_of file x) s (j.known x e s v.log v.trace v.accepted v.encoded)
         (subst (λ (f : Formula). (z : SlipForm f) → says b v.trace f z) (sym (formula_same file file' p x e)) (λ z. k.known x (other e) z v.log v.trace v.accepted v.encoded) s)
 
-    there : (x : Rule) → rule_of file ≡ RuleRead.Rule x → SlipForm (formula_of file x) → SlipForm (formula_of file' x)
+    there : (x : Rule) → rule_of file ≡ Ok x → SlipForm (formula_of file x) → SlipForm (formula_of file' x)
     there x e s = subst SlipForm (formula_same file file' p x e) s
 
-    back : (x : Rule) → rule_of file ≡ RuleRead.Rule x → SlipForm (formula_of file' x) → SlipForm (formula_of file x)
+    back : (x : Rule) → rule_of file ≡ Ok x → SlipForm (formula_of file' x) → SlipForm (formula_of file x)
     back x e s = subst SlipForm (sym (formula_same file file' p x e)) s
 
-    by_record : (x : Rule) (e : rule_of file ≡ RuleRead.Rule x) (s : SlipForm (formula_of file x)) → (c : Bool) → Tells c (Valid r) → a ≡ b
+    by_record : (x : Rule) (e : rule_of file ≡ Ok x) (s : SlipForm (formula_of file x)) → (c : Bool) → Tells c (Valid r) → a ≡ b
     by_record x e s true d = known x e s (d.yes refl)
     by_record x e s false d = j.no_record x e s (d.no refl) ∙ sym (k.no_record x (other e) (there x e s) (d.no refl))
 
-    by_form : (x : Rule) (e : rule_of file ≡ RuleRead.Rule x) (c : Bool) → Tells c (SlipForm (formula_of file x)) → a ≡ b
+    by_form : (x : Rule) (e : rule_of file ≡ Ok x) (c : Bool) → Tells c (SlipForm (formula_of file x)) → a ≡ b
     by_form x e true d = let w = j.decided x e (d.yes refl) in by_record x e (d.yes refl) w.0 w.1
     by_form x e false d = j.other_form x e (d.no refl) ∙ sym (k.other_form x (other e) (λ s. d.no refl (back x e s)))
 
-    by_rule : (q : RuleRead) → rule_of file ≡ q → a ≡ b
-    by_rule (RuleRead.Refused n) e = j.rule n e ∙ sym (k.rule n (other e))
-    by_rule (RuleRead.Rule x) e = let w = j.form x e in by_form x e w.0 w.1
+    by_rule : (q : Result Rule Refusal) → rule_of file ≡ q → a ≡ b
+    by_rule (Err n) e = j.rule n e ∙ sym (k.rule n (other e))
+    by_rule (Ok x) e = let w = j.form x e in by_form x e w.0 w.1
 
 finding_case : (file file' : List ℕ) → RecasedRule file file' → (r : Record) (a b : Finding) → FindsFirst file r a → FindsFirst file' r b → a ≡ b
 finding_case file file' p r a b j k =

@@ -16,7 +16,9 @@ use Rattle.trace.specs.Trace.{Trace}
 use Rattle.pairs.specs.declared.Layout.{Layout}
 use Rattle.pairs.specs.Layout.{work_size}
 use Rattle.rules.specs.declared.Rule.{Rule}
-use Rattle.rules.specs.declared.RuleRead.{RuleRead}
+use Rattle.std.specs.Prelude.{Result, Ok, Err}
+use Rattle.refusals.specs.Refusal.{number}
+use Rattle.refusals.specs.declared.Refusal.{Refusal}
 use Rattle.rules.specs.Rules.{rule_of}
 use Rattle.grammar.proofs.RuleMet.{rule_met}
 use Rattle.reading.specs.Left.{Left, Unknown}
@@ -25,6 +27,7 @@ use Rattle.single.specs.declared.Outcome.{Outcome}
 use Rattle.single.specs.declared.Outcome.TheVariants.{Refused}
 use Rattle.single.specs.Handed.{HandedBy, Reached}
 use Rattle.single.specs.Line.{with_rule}
+use Rattle.refusals.proofs.Answers.{refused_ok}
 use Rattle.single.proofs.LineCall.{no_rule}
 use Rattle.claims.specs.WhereMet.{Ruled, Met, short, rule, unknown, then}
 use Rattle.claims.proofs.Stops.{same_refusal}
@@ -32,23 +35,23 @@ use Rattle.claims.proofs.Stops.{same_refusal}
 -- ── the rule ──
 module _ (file : List ℕ) where
   -- a file that is taken meets no refusal, and one that meets none is taken
-  pub taken_ruled : (x : Rule) → rule_of file ≡ RuleRead.Rule x → Ruled file
-  taken_ruled x e c m = no_rule (rule_of file) c x ((rule_met file c).1 m) e
+  pub taken_ruled : (x : Rule) → rule_of file ≡ Ok x → Ruled file
+  taken_ruled x e c m = refused_ok (rule_of file) c x e ((rule_met file c).1 m)
 
-  pub ruled_taken : Ruled file → (x : Rule) × (rule_of file ≡ RuleRead.Rule x)
+  pub ruled_taken : Ruled file → (x : Rule) × (rule_of file ≡ Ok x)
   ruled_taken g = go (rule_of file) refl
     where
-      go : (q : RuleRead) → rule_of file ≡ q → (x : Rule) × (rule_of file ≡ RuleRead.Rule x)
-      go (RuleRead.Rule x) e = (x, e)
-      go (RuleRead.Refused c) e = absurd (g c ((rule_met file c).0 e))
+      go : (q : Result Rule Refusal) → rule_of file ≡ q → (x : Rule) × (rule_of file ≡ Ok x)
+      go (Ok x) e = (x, e)
+      go (Err c) e = absurd (g (number c) ((rule_met file (number c)).0 (c, (e, refl))))
 
 -- 21 is decided where it is looked for; elsewhere it makes no difference
 pub handed : (lay : Layout) (file : List ℕ) (r : Record) (w : List ℕ) → (Reached lay file w → (k : Option Trace) × HandedBy lay r w k) → (k : Option Trace) × (Reached lay file w → HandedBy lay r w k)
 handed lay file r w d = either_lt (length w) (work_size lay) (λ s. (none, λ q. absurd (omega (arith, q.long)))) (λ s. go (rule_of file) refl s)
   where
-    go : (q : RuleRead) → rule_of file ≡ q → work_size lay ≤ length w → (k : Option Trace) × (Reached lay file w → HandedBy lay r w k)
-    go (RuleRead.Refused n) p s = (none, λ q. no_rule (rule_of file) n q.rule p q.taken)
-    go (RuleRead.Rule x) p s = let g = d (record { long = s; rule = x; taken = p }) in (g.0, λ _. g.1)
+    go : (q : Result Rule Refusal) → rule_of file ≡ q → work_size lay ≤ length w → (k : Option Trace) × (Reached lay file w → HandedBy lay r w k)
+    go (Err n) p s = (none, λ q. no_rule (rule_of file) n q.rule p q.taken)
+    go (Ok x) p s = let g = d (record { long = s; rule = x; taken = p }) in (g.0, λ _. g.1)
 
 -- ── the order ──
 module _ {A : Type 0} (lay : Layout) (file : List ℕ) (r : Record) (w : List ℕ) (refuse : ℕ → A) (after : Rule → Trace → A) where
@@ -62,8 +65,8 @@ module _ {A : Type 0} (lay : Layout) (file : List ℕ) (r : Record) (w : List �
   by_short : (k : Option Trace) → length w < work_size lay → answer_by k ≡ refuse 20
   by_short k s = simp (lt-ltb (length w) (work_size lay) s)
 
-  by_rule : (k : Option Trace) → work_size lay ≤ length w → (q : RuleRead) → rule_of file ≡ q → answer_by k ≡ with_rule q refuse (state_by k)
-  by_rule k s q e = simp (le-ltb (length w) (work_size lay) s) (ap (λ (z : RuleRead). with_rule z refuse (state_by k)) e)
+  by_rule : (k : Option Trace) → work_size lay ≤ length w → (q : Result Rule Refusal) → rule_of file ≡ q → answer_by k ≡ with_rule q refuse (state_by k)
+  by_rule k s q e = simp (le-ltb (length w) (work_size lay) s) (ap (λ (z : Result Rule Refusal). with_rule z refuse (state_by k)) e)
 
   -- what holds of every refusal and of all that follows holds of the answer
   module _ (P : A → Type 0) (refusals : (n : ℕ) → P (refuse n)) (lines : (x : Rule) (log : List ℕ) (t : Trace) → Left lay log t r w → P (after x t)) where
@@ -78,9 +81,9 @@ module _ {A : Type 0} (lay : Layout) (file : List ℕ) (r : Record) (w : List �
         (λ s. subst P (sym (by_short k s)) (refusals 20))
         (λ s. go (rule_of file) refl s)
       where
-        go : (q : RuleRead) → rule_of file ≡ q → work_size lay ≤ length w → P (answer_by k)
-        go (RuleRead.Refused n) e s = subst P (sym (by_rule k s _ e)) (refusals n)
-        go (RuleRead.Rule x) e s = subst P (sym (by_rule k s _ e)) (by_state k (h (record { long = s; rule = x; taken = e })) x)
+        go : (q : Result Rule Refusal) → rule_of file ≡ q → work_size lay ≤ length w → P (answer_by k)
+        go (Err n) e s = subst P (sym (by_rule k s _ e)) (refusals (number n))
+        go (Ok x) e s = subst P (sym (by_rule k s _ e)) (by_state k (h (record { long = s; rule = x; taken = e })) x)
 
   module _ (out : A → Outcome) (says : (n : ℕ) → out (refuse n) ≡ Refused n) (met : Trace → ℕ → Type 0)
       (line_met : (x : Rule) (log : List ℕ) (t : Trace) → Left lay log t r w → (c : ℕ) → (out (after x t) ≡ Refused c) ↔ met t c) where
@@ -102,11 +105,11 @@ module _ {A : Type 0} (lay : Layout) (file : List ℕ) (r : Record) (w : List �
           subst (λ (z : Trace). out (after x z) ≡ Refused c) (sym (one_trace lay r w h.0 log u t h.1 l)) ((line_met x log t l c).1 m)
 
       module _ (k : Option Trace) (h : Reached lay file w → HandedBy lay r w k) where
-        taken_answer : work_size lay ≤ length w → (x : Rule) → rule_of file ≡ RuleRead.Rule x → answer_by k ≡ state_by k x
+        taken_answer : work_size lay ≤ length w → (x : Rule) → rule_of file ≡ Ok x → answer_by k ≡ state_by k x
         unfolding with_rule
         taken_answer s x e = by_rule k s _ e
 
-        handed_in : work_size lay ≤ length w → (x : Rule) → rule_of file ≡ RuleRead.Rule x → HandedBy lay r w k
+        handed_in : work_size lay ≤ length w → (x : Rule) → rule_of file ≡ Ok x → HandedBy lay r w k
         handed_in s x e = h (record { long = s; rule = x; taken = e })
 
         forth : out (answer_by k) ≡ Refused c → Met lay file r w met c
@@ -116,14 +119,16 @@ module _ {A : Type 0} (lay : Layout) (file : List ℕ) (r : Record) (w : List �
             (λ s. short s (sym (same 20 c (sym (ap out (by_short k s)) ∙ e))))
             (λ s. go (rule_of file) refl s)
           where
-            go : (q : RuleRead) → rule_of file ≡ q → work_size lay ≤ length w → Met lay file r w met c
-            go (RuleRead.Refused n) q s = rule s ((rule_met file c).0 (q ∙ ap RuleRead.Refused (same n c (sym (ap out (by_rule k s _ q)) ∙ e))))
-            go (RuleRead.Rule x) q s = state_met k s (taken_ruled file x q) (handed_in s x q) x (sym (ap out (taken_answer s x q)) ∙ e)
+            go : (q : Result Rule Refusal) → rule_of file ≡ q → work_size lay ≤ length w → Met lay file r w met c
+            go (Err n) q s = rule s ((rule_met file c).0 (n, (q, same (number n) c (sym (ap out (by_rule k s _ q)) ∙ e))))
+            go (Ok x) q s = state_met k s (taken_ruled file x q) (handed_in s x q) x (sym (ap out (taken_answer s x q)) ∙ e)
 
         back : Met lay file r w met c → out (answer_by k) ≡ Refused c
         unfolding with_rule
         back (short s e) = ap out (by_short k s) ∙ (says 20 ∙ ap Refused (sym e))
-        back (rule s m) = ap out (by_rule k s _ ((rule_met file c).1 m)) ∙ says c
+        back (rule s m) =
+            let v = (rule_met file c).1 m in
+            ap out (by_rule k s _ v.1.0) ∙ (says (number v.0) ∙ ap Refused v.1.1)
         back (unknown s g u e) =
             let x = ruled_taken file g in
             ap out (taken_answer s x.0 x.1) ∙ state-unknown k (handed_in s x.0 x.1) u x.0 e

@@ -22,7 +22,8 @@ use Rattle.pairs.specs.Start.{start_of}
 use Rattle.pairs.proofs.Places.{places, square_below, half_exact, half_full}
 use Rattle.pairs.proofs.Work.{work_pair, work_few, few_work, one_layout}
 use Rattle.rules.specs.declared.Rule.{Rule}
-use Rattle.rules.specs.declared.RuleRead.{RuleRead}
+use Rattle.std.specs.Prelude.{Result, Ok, Err}
+use Rattle.refusals.specs.declared.Refusal.{Refusal}
 use Rattle.rules.specs.Rules.{rule_of, formula_of}
 use Rattle.logic.specs.Verdict.{verdict_byte, verdict_of}
 use Rattle.reading.specs.declared.Ending.TheVariants as Ending
@@ -38,7 +39,7 @@ use Rattle.tallies.specs.declared.Tallied.{Tallied}
 use Rattle.tallies.specs.Tally.{counts?, refusing_with, tallied_after, tallied_state, tallied_of}
 use Rattle.whole_log.specs.Log.{not_read, lines_from, log_of}
 use Rattle.whole_log.specs.Part.{read_part}
-use Rattle.whole_log.specs.Repeated.{Result}
+use Rattle.whole_log.specs.Repeated.{Result as Whole}
 use Rattle.report.specs.Calls.{StartCall, LineCall, TalliedCall, LogCall, ReportCall, LongEnough, log_part, report_part}
 use Rattle.report.specs.Report.{report_size, report_of}
 use Rattle.report.specs.Report as Report
@@ -70,9 +71,9 @@ module _ (lay lay' : Layout) (w w' : List ℕ) (long : work_size lay ≤ length 
       by_state x (some t) = by_answer_lem x t (step (next t) line)
       by_state x none = refl
 
-      by_rule : (q : RuleRead) → (with_rule q (λ n. (refusing r n, w)) (λ x. state_of lay file x r w line h)).0 ≡ (with_rule q (λ n. (refusing r n, w')) (λ x. state_of lay' file x r w' line h)).0
-      by_rule (RuleRead.Rule x) = by_state x h
-      by_rule (RuleRead.Refused n) = refl
+      by_rule : (q : Result Rule Refusal) → (with_rule q (λ n. (refusing r n, w)) (λ x. state_of lay file x r w line h)).0 ≡ (with_rule q (λ n. (refusing r n, w')) (λ x. state_of lay' file x r w' line h)).0
+      by_rule (Ok x) = by_state x h
+      by_rule (Err n) = refl
 
   tallied-either : (y : Tally) → (tallied_of lay file r y w line h).0 ≡ (tallied_of lay' file r y w' line h).0
   unfolding tallied_of with_rule tallied_state tallied_after
@@ -86,10 +87,10 @@ module _ (lay lay' : Layout) (w w' : List ℕ) (long : work_size lay ≤ length 
       by_state x (some t) = either_bool (counts? t y) (λ e. simp e (by_answer_lem x t (step (next t) line))) (λ e. simp e)
       by_state x none = refl
 
-      by_rule : (q : RuleRead) → (with_rule q (λ n. (refusing_with r y n, w)) (λ x. tallied_state lay file x r y w line h)).0
+      by_rule : (q : Result Rule Refusal) → (with_rule q (λ n. (refusing_with r y n, w)) (λ x. tallied_state lay file x r y w line h)).0
           ≡ (with_rule q (λ n. (refusing_with r y n, w')) (λ x. tallied_state lay' file x r y w' line h)).0
-      by_rule (RuleRead.Rule x) = by_state x h
-      by_rule (RuleRead.Refused n) = refl
+      by_rule (Ok x) = by_state x h
+      by_rule (Err n) = refl
 
 line_same : (j k : LineCall) → j.file ≡ k.file → j.state ≡ k.state → j.line ≡ k.line → work_size j.layout ≤ length j.work → work_size k.layout ≤ length k.work
     → (h : Option Trace) → HandedBy j.layout j.state j.work h → HandedBy k.layout k.state k.work h → j.answer ≡ k.answer
@@ -111,7 +112,7 @@ tallied_same j k f s y l long long' h a b =
 
 -- ── a whole log ──
 -- what is left without the work area
-abbrev answered : Result → LogRead × List ℕ
+abbrev answered : Whole → LogRead × List ℕ
 answered z = (z.0, z.2)
 
 module _ (lay lay' : Layout) (w w' file : List ℕ) where
@@ -133,10 +134,10 @@ module _ (lay lay' : Layout) (w w' file : List ℕ) where
       (λ h. simp (le-ltb (length w) (work_size lay) long, le-ltb (length w') (work_size lay') long', lt-ltb (length out) max_lines h))
       (λ h. simp (le-ltb (length w) (work_size lay) long, le-ltb (length w') (work_size lay') long', le-ltb (length out) max_lines h) (by_rule (rule_of file)))
     where
-      by_rule : (q : RuleRead) → answered (with_rule q (λ n. (not_read n, w, out)) (λ x. lines_from lay file x no_trace (lines_of log) w out))
+      by_rule : (q : Result Rule Refusal) → answered (with_rule q (λ n. (not_read n, w, out)) (λ x. lines_from lay file x no_trace (lines_of log) w out))
           ≡ answered (with_rule q (λ n. (not_read n, w', out)) (λ x. lines_from lay' file x no_trace (lines_of log) w' out))
-      by_rule (RuleRead.Rule x) = lines_either x (lines_of log) no_trace out
-      by_rule (RuleRead.Refused n) = refl
+      by_rule (Ok x) = lines_either x (lines_of log) no_trace out
+      by_rule (Err n) = refl
 
 log_same : (j k : LogCall) → j.mode ≡ k.mode → j.file ≡ k.file → j.log ≡ k.log → j.verdicts ≡ k.verdicts → work_size j.layout ≤ length j.work → work_size k.layout ≤ length k.work
     → (j.answer ≡ k.answer) × (j.verdicts' ≡ k.verdicts')

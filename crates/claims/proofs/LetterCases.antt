@@ -11,7 +11,8 @@ use Rattle.lines.specs.Line.{event_of}
 use Rattle.lines.specs.Render.{digits}
 use Rattle.trace.specs.Trace.{read, step, apply_to, apply, begin_run, end_run, begin, end, running?, close}
 use Rattle.trace.specs.Orderly.{finished_runs}
-use Rattle.rules.specs.declared.RuleRead.TheVariants as RuleRead
+use Rattle.std.specs.Prelude.{Ok, Err}
+use Rattle.refusals.specs.declared.Refusal.TheVariants.{RuleLabel}
 use Rattle.rules.specs.Parts.{part, and_then, nothing_follows}
 use Rattle.rules.specs.Labels.{label_start, listed, read_label, read_labels}
 use Rattle.rules.specs.Table.{read_nodes, tree, formula_at}
@@ -44,7 +45,7 @@ use Rattle.output.specs.declared.Written.TheVariants.{Length}
 use Rattle.claims.specs.LetterCases.{p1_small, two_labels, LetterCases}
 
 -- ── rule files ──
-small-taken : rule_of p1_small ≡ RuleRead.Rule p1_rule
+small-taken : rule_of p1_small ≡ Ok p1_rule
 unfolding rule_of part and_then nothing_follows label_start listed read_label read_labels read_nodes tree formula_at times_named once_below whole_table scoped shallow letter? digit? capital label_form?
 small-taken = refl
 
@@ -64,7 +65,7 @@ hashes : (first_place (label_of (bytes "EVENING")) ≡ 15) × (first_place (labe
 unfolding first_place label_of pad fnv_from
 hashes = (refl, refl)
 
-lists : (rule_of (two_labels 65 97) ≡ RuleRead.Refused 5) × (rule_of (two_labels 122 90) ≡ RuleRead.Refused 5) × (rule_of (two_labels 65 98) ≡ RuleRead.Rule (record { labels = 2; nodes = 11; count = 2 }))
+lists : (rule_of (two_labels 65 97) ≡ Err RuleLabel) × (rule_of (two_labels 122 90) ≡ Err RuleLabel) × (rule_of (two_labels 65 98) ≡ Ok (record { labels = 2; nodes = 11; count = 2 }))
 unfolding rule_of part and_then nothing_follows label_start listed read_label read_labels read_nodes tree formula_at times_named once_below whole_table scoped shallow letter? digit? capital label_form?
 lists = (refl, refl, refl)
 

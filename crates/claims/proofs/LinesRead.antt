@@ -15,7 +15,7 @@ use Rattle.pairs.specs.Layout.{place}
 use Rattle.pairs.specs.Pairs.{pair_byte, work_of}
 use Rattle.pairs.proofs.Work.{work_pair}
 use Rattle.rules.specs.declared.Rule.{Rule}
-use Rattle.rules.specs.declared.RuleRead.TheVariants as RuleRead
+use Rattle.std.specs.Prelude.{Ok}
 use Rattle.rules.specs.Rules.{rule_of}
 use Rattle.rules.specs.Cases.{p1_file, p1_rule}
 use Rattle.rules.proofs.Worked.{p1-taken}
@@ -25,7 +25,7 @@ use Rattle.whole_log.specs.Cases.{Long, first_place, first_pair}
 use Rattle.single.proofs.LineCall.{with_taken}
 
 -- the call reads the lines
-pub reads : (lay : Layout) (file : List ℕ) (x : Rule) → rule_of file ≡ RuleRead.Rule x → (log w out : List ℕ) → Long lay w out → log_of lay file log w out ≡ lines_from lay file x no_trace (lines_of log) w out
+pub reads : (lay : Layout) (file : List ℕ) (x : Rule) → rule_of file ≡ Ok x → (log w out : List ℕ) → Long lay w out → log_of lay file log w out ≡ lines_from lay file x no_trace (lines_of log) w out
 unfolding log_of
 reads lay file x e log w out h = simp (le-ltb _ _ h.work, le-ltb _ _ h.verdicts) (with_taken (rule_of file) x _ _ e)
 

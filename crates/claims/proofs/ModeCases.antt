@@ -10,7 +10,7 @@ use Rattle.lines.specs.Log.{lines_of}
 use Rattle.lines.specs.Render.{digits}
 use Rattle.trace.specs.Trace.{no_trace, step, apply_to, apply, begin_run, end_run, begin, end, running?, close}
 use Rattle.rules.specs.declared.Rule.{Rule}
-use Rattle.rules.specs.declared.RuleRead.TheVariants as RuleRead
+use Rattle.std.specs.Prelude.{Ok}
 use Rattle.rules.specs.Labels.{label_start}
 use Rattle.rules.specs.Table.{tree, formula_at}
 use Rattle.rules.specs.Rules.{rule_of}
@@ -55,7 +55,7 @@ unfolding to_failure by_answer verdict_of eval tree formula_at label_start step 
 p10_part = part_ruled p10_file p10_rule p10-taken (bytes "B 1\nE 1\n") ∙ refl
 
 -- ── the output ──
-output : (file : List ℕ) (x : Rule) → rule_of file ≡ RuleRead.Rule x → (log s : List ℕ) → text_from file x no_trace 0 (lines_of log) ≡ s → report_text file log ≡ s
+output : (file : List ℕ) (x : Rule) → rule_of file ≡ Ok x → (log s : List ℕ) → text_from file x no_trace 0 (lines_of log) ≡ s → report_text file log ≡ s
 unfolding report_text
 output file x rule log s e = with_taken {A = List ℕ} (rule_of file) x _ _ rule ∙ e
 

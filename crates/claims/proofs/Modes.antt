@@ -12,7 +12,7 @@ use Rattle.lines.specs.Log.{lines_of, flat}
 use Rattle.trace.specs.Trace.{Trace, next, no_trace, read, steps, Accepted}
 use Rattle.trace.proofs.Grown.{no_bytes, flat_lines}
 use Rattle.rules.specs.declared.Rule.{Rule}
-use Rattle.rules.specs.declared.RuleRead.TheVariants as RuleRead
+use Rattle.std.specs.Prelude.{Ok}
 use Rattle.rules.specs.Rules.{rule_of, formula_of}
 use Rattle.rules.proofs.Rules.{rule_taken}
 use Rattle.logic.specs.declared.Verdict.TheVariants as Verdict
@@ -97,7 +97,7 @@ module _ (file : List ℕ) (x : Rule) where
       absurd (omega (arith, least q (ends_with p q f.rest log f.divides n.0 n.1 other h))))
       (λ l. l))
 
-  same_behind : rule_of file ≡ RuleRead.Rule x → (log other p r : List ℕ) → EndsFailing file x log p → other ≡ p ++ r
+  same_behind : rule_of file ≡ Ok x → (log other p r : List ℕ) → EndsFailing file x log p → other ≡ p ++ r
       → read_part FirstFailure file other ≡ read_part FirstFailure file log
   same_behind rule log other p r f d =
       one_part FirstFailure file x other _ _ (part_of_lem file x rule FirstFailure other) (behind_part log other p r f d _ (part_of_lem file x rule FirstFailure log))
@@ -212,7 +212,7 @@ module _ (k : LogCall) (x : Rule) (taking : Taking k x) (mode : k.mode ≡ First
           (means.verdicts n g.trace (omega arith) e).byte ∙ ap verdict_byte (sym g.fails.answer)
 
 -- ── the report of a log with a failing line ──
-report-ends : (k : ReportCall) (n : ℕ) (x : Rule) → k.answer ≡ Reported.Length n → rule_of k.file ≡ RuleRead.Rule x → k.mode ≡ FirstFailure → (p : List ℕ)
+report-ends : (k : ReportCall) (n : ℕ) (x : Rule) → k.answer ≡ Reported.Length n → rule_of k.file ≡ Ok x → k.mode ≡ FirstFailure → (p : List ℕ)
     → EndsFailing k.file x k.log p → EndsReport k x n
 unfolding read
 report-ends k n x a rule mode p f = go (subst (λ (m : Mode). PartOf m k.file x k.log part) mode (k.reports.part x rule))

@@ -22,7 +22,10 @@ use Rattle.pairs.specs.declared.Layout.{Layout}
 use Rattle.pairs.specs.Layout.{work_size}
 use Rattle.pairs.specs.Pairs.{work_of}
 use Rattle.rules.specs.declared.Rule.{Rule}
-use Rattle.rules.specs.declared.RuleRead.{RuleRead}
+use Rattle.std.specs.Prelude.{Result, Ok, Err}
+use Rattle.refusals.specs.Refusal.{number}
+use Rattle.refusals.specs.Refusal.{RefusedWith}
+use Rattle.refusals.specs.declared.Refusal.{Refusal}
 use Rattle.rules.specs.Rules.{rule_of, formula_of, ReadsRule}
 use Rattle.rules.proofs.Rules.{reads_rule}
 use Rattle.grammar.specs.MetBytes.{MetBytes}
@@ -52,11 +55,14 @@ use Rattle.claims.proofs.OtherCalls.{start_met, start_kept, report_met, report_k
 use Rattle.claims.proofs.Untouched.{untouched_bytes}
 
 -- ── numbers ──
-pub rule_range : (file : List ℕ) (n : ℕ) → rule_of file ≡ RuleRead.Refused n → (1 ≤ n) × (n ≤ 10)
-rule_range file n e = (reads_rule file (RuleRead.Refused n) (sym e)).refused n refl
+pub rule_range : (file : List ℕ) (e : Refusal) → rule_of file ≡ Err e → (1 ≤ number e) × (number e ≤ 10)
+rule_range file n e = (reads_rule file (Err n) (sym e)).refused n refl
 
-pub rule_number : (file : List ℕ) (n : ℕ) → rule_of file ≡ RuleRead.Refused n → Listed n
+pub rule_number : (file : List ℕ) (e : Refusal) → rule_of file ≡ Err e → Listed (number e)
 rule_number file n e = let r = rule_range file n e in omega arith
+
+pub met_number : (file : List ℕ) (c : ℕ) → MetRule file c → Listed c
+met_number file c m = let w = (rule_met file c).1 m in subst Listed w.1.1 (rule_number file w.0 w.1.0)
 
 -- ── one line ──
 module _ (lay : Layout) (r : Record) (w : List ℕ) where
@@ -90,9 +96,9 @@ line_kept lay file r w line k h =
     (λ s. simp (lt-ltb _ _ s) (kept_refusal lay r w 20 (omega arith)))
     (λ s. simp (le-ltb _ _ s) (go (rule_of file) refl s))
   where
-    go : (q : RuleRead) → rule_of file ≡ q → work_size lay ≤ length w → LineKept lay r w (with_rule q (λ n. (refusing r n, w)) (λ x. state_of lay file x r w line k))
-    go (RuleRead.Refused n) q s = kept_refusal lay r w n (rule_number file n q)
-    go (RuleRead.Rule x) q s = kept_state lay r w file x line k (h (record { long = s; rule = x; taken = q }))
+    go : (q : Result Rule Refusal) → rule_of file ≡ q → work_size lay ≤ length w → LineKept lay r w (with_rule q (λ n. (refusing r n, w)) (λ x. state_of lay file x r w line k))
+    go (Err n) q s = kept_refusal lay r w (number n) (rule_number file n q)
+    go (Ok x) q s = kept_state lay r w file x line k (h (record { long = s; rule = x; taken = q }))
 
 -- ── one line with a tally ──
 module _ (lay : Layout) (r : Record) (y : Tally) (w : List ℕ) where
@@ -128,9 +134,9 @@ tallied_kept lay file r y w line k h =
     (λ s. simp (lt-ltb _ _ s) (tally_refusal lay r y w 20 (omega arith)))
     (λ s. simp (le-ltb _ _ s) (go (rule_of file) refl s))
   where
-    go : (q : RuleRead) → rule_of file ≡ q → work_size lay ≤ length w → TallyKept lay r y w (with_rule q (λ n. (refusing_with r y n, w)) (λ x. tallied_state lay file x r y w line k))
-    go (RuleRead.Refused n) q s = tally_refusal lay r y w n (rule_number file n q)
-    go (RuleRead.Rule x) q s = tally_state lay r y w file x line k (h (record { long = s; rule = x; taken = q }))
+    go : (q : Result Rule Refusal) → rule_of file ≡ q → work_size lay ≤ length w → TallyKept lay r y w (with_rule q (λ n. (refusing_with r y n, w)) (λ x. tallied_state lay file x r y w line k))
+    go (Err n) q s = tally_refusal lay r y w (number n) (rule_number file n q)
+    go (Ok x) q s = tally_state lay r y w file x line k (h (record { long = s; rule = x; taken = q }))
 
 -- ── a whole log ──
 -- before any line is read, or at the first line that is refused
@@ -156,15 +162,15 @@ log_of_kept lay file log w out c n e =
         (omega (arith, l, p.0), untouched (sym p.1) (ap (λ (z : End). z.0) q ∙ ap not_read p.0) (ap (λ (z : End). z.1) q) (ap (λ (z : End). z.2) q))
 
     -- the rule is taken and the buffers are long enough: the lines are read
-    read_first : (l : List ℕ) (x : Rule) → rule_of file ≡ RuleRead.Rule x → ltb (length w) (work_size lay) || ltb (length out) 256 ≡ false
+    read_first : (l : List ℕ) (x : Rule) → rule_of file ≡ Ok x → ltb (length w) (work_size lay) || ltb (length out) 256 ≡ false
         → log_of lay file l w out ≡ lines_from lay file x no_trace (lines_of l) w out
-    read_first l x r s = simp s (ap (λ (z : RuleRead). with_rule {A = End} z (λ n. (not_read n, w, out)) (λ x. lines_from lay file x no_trace (lines_of l) w out)) r)
+    read_first l x r s = simp s (ap (λ (z : Result Rule Refusal). with_rule {A = End} z (λ n. (not_read n, w, out)) (λ x. lines_from lay file x no_trace (lines_of l) w out)) r)
 
-    go : (q : RuleRead) → rule_of file ≡ q → ltb (length w) (work_size lay) || ltb (length out) 256 ≡ false → KeptLog lay file log w out c n
-    go (RuleRead.Refused m) r s =
-        not_touched m (rule_number file m r)
-        (simp s (ap (λ (z : RuleRead). with_rule {A = End} z (λ n. (not_read n, w, out)) (λ x. lines_from lay file x no_trace (lines_of log) w out)) r))
-    go (RuleRead.Rule x) r s =
+    go : (q : Result Rule Refusal) → rule_of file ≡ q → ltb (length w) (work_size lay) || ltb (length out) 256 ≡ false → KeptLog lay file log w out c n
+    go (Err m) r s =
+        not_touched (number m) (rule_number file m r)
+        (simp s (ap (λ (z : Result Rule Refusal). with_rule {A = End} z (λ n. (not_read n, w, out)) (λ x. lines_from lay file x no_trace (lines_of log) w out)) r))
+    go (Ok x) r s =
         let q = read_first log x r s in
         let g : Stopped lay file x w no_trace (lines_of log) out c n = stops lay file x w (lines_of log) no_trace out c n (sym (ap (λ (z : End). z.0.ending) q) ∙ e) in
         let b : List ℕ = start_of lay file x w (lines_of log) out c n g in
@@ -215,8 +221,9 @@ lent_nothing c m l = record { listed = λ e. l (m.0 e); just_where = m; changes_
 bytes_met : (line : List ℕ) (c : ℕ) → (parsed_of line ≡ Parsed.Refused c) ↔ MetBytes line c
 bytes_met line c = (λ e. (faulty-says line c).0 ((parse_met line c).0 e), λ m. (parse_met line c).1 ((faulty-says line c).1 m))
 
-file_met : (file : List ℕ) (q : RuleRead) → ReadsRule file q → (c : ℕ) → (q ≡ RuleRead.Refused c) ↔ MetRule file c
-file_met file q h c = (λ e. (rule_met file c).0 (sym h.answer ∙ e), λ m. h.answer ∙ (rule_met file c).1 m)
+file_met : (file : List ℕ) (q : Result Rule Refusal) → ReadsRule file q → (c : ℕ) → RefusedWith c q ↔ MetRule file c
+file_met file q h c =
+    (λ e. (rule_met file c).0 (e.0, (sym h.answer ∙ e.1.0, e.1.1)), λ m. let w = (rule_met file c).1 m in (w.0, (h.answer ∙ w.1.0, w.1.1)))
 
 pub demand-1 : Demand1
 demand-1 =
@@ -237,7 +244,7 @@ demand-1 =
       relate = λ r a b v h c. lent_nothing c (relate_met r a b v h c) (relate-listed r a.0 b.0 c);
       compose = λ a b v h c. lent_nothing c (compose_met a b v h c) (λ m. omega (arith, m.1));
       converse = λ a v h c. lent_nothing c (converse_met a v h c) (λ m. omega (arith, m.1));
-      rule = λ file q h c. lent_nothing c (file_met file q h c) (λ m. rule_number file c ((rule_met file c).1 m));
+      rule = λ file q h c. lent_nothing c (file_met file q h c) (met_number file c);
       parse = λ line c. lent_nothing c (bytes_met line c) (λ m. let r = event_refusal line c ((faulty-says line c).1 m) in omega arith);
       next = λ log p c. record { listed = λ e. omega (arith, ((next_met log p c).0 e).2); just_where = next_met log p c; changes_nothing = λ e. ap (λ (n : Next). place_after n p) e };
       untouched = untouched_bytes;

@@ -19,7 +19,8 @@ use Rattle.rules.specs.Labels.{label_start, listed, read_label, read_labels}
 use Rattle.rules.specs.Table.{read_nodes, tree, formula_at}
 use Rattle.rules.specs.Checks.{times_named, once_below, whole_table}
 use Rattle.rules.specs.declared.Rule.{Rule}
-use Rattle.rules.specs.declared.RuleRead.TheVariants as RuleRead
+use Rattle.std.specs.Prelude.{Ok, Err}
+use Rattle.refusals.specs.declared.Refusal.TheVariants.{RuleTooDeep}
 use Rattle.rules.specs.Rules.{rule_of, formula_of}
 use Rattle.rules.proofs.Worked.{p1-taken, p1-formula, p10-taken, p10-formula}
 use Rattle.logic.specs.Model.{eval}
@@ -120,15 +121,15 @@ other_rule = record { labels = 1; nodes = 13; count = 4 }
 abbrev four_rule : Rule
 four_rule = record { labels = 1; nodes = 12; count = 6 }
 
-none_taken : rule_of none_before ≡ RuleRead.Rule none_rule
+none_taken : rule_of none_before ≡ Ok none_rule
 unfolding rule_of part and_then nothing_follows label_start listed read_label read_labels read_nodes tree formula_at times_named once_below whole_table scoped shallow letter? digit? capital label_form?
 none_taken = refl
 
-other_taken : rule_of all_other ≡ RuleRead.Rule other_rule
+other_taken : rule_of all_other ≡ Ok other_rule
 unfolding rule_of part and_then nothing_follows label_start listed read_label read_labels read_nodes tree formula_at times_named once_below whole_table scoped shallow letter? digit? capital label_form?
 other_taken = refl
 
-four-taken : rule_of no_test_four_times ≡ RuleRead.Rule four_rule
+four-taken : rule_of no_test_four_times ≡ Ok four_rule
 unfolding rule_of part and_then nothing_follows label_start listed read_label read_labels read_nodes tree formula_at times_named once_below whole_table scoped shallow letter? digit? capital label_form?
 four-taken = refl
 
@@ -250,7 +251,7 @@ left_some = (form_tells (neg (exists 0 (both (exists 1 (pair before 0 1)) (has 0
 p10_other : SlipForm (formula_of p10_file p10_rule) → ⊥
 p10_other s = bare_some (subst SlipForm p10-formula s)
 
-bare_refused : rule_of bare_five ≡ RuleRead.Refused 10
+bare_refused : rule_of bare_five ≡ Err RuleTooDeep
 unfolding rule_of part and_then nothing_follows label_start listed read_label read_labels read_nodes tree formula_at times_named once_below whole_table scoped shallow letter? digit? capital label_form?
 bare_refused = refl
 
@@ -292,7 +293,7 @@ slip_cases =
       some_left = left_some;
       other_found = λ r a h. h.other_form p10_rule p10-taken p10_other;
       other_read = λ r x a h. h.other_form p10_rule p10-taken p10_other;
-      ten_found = λ r a h. h.rule 10 bare_refused;
-      ten_read = λ r x a h. h.rule 10 bare_refused;
+      ten_found = λ r a h. h.rule RuleTooDeep bare_refused;
+      ten_read = λ r x a h. h.rule RuleTooDeep bare_refused;
       spoiled_read = λ r n x a h. h.no_record p1_rule p1-taken p1_form n;
     }

@@ -10,7 +10,9 @@ use Rattle.trace.specs.declared.Record.{Record}
 use Rattle.trace.specs.Trace.{Trace, Accepted}
 use Rattle.trace.specs.Record.{record_of, Valid}
 use Rattle.rules.specs.declared.Rule.{Rule}
-use Rattle.rules.specs.declared.RuleRead.{RuleRead}
+use Rattle.std.specs.Prelude.{Result, Ok, Err}
+use Rattle.refusals.specs.Refusal.{number}
+use Rattle.refusals.specs.declared.Refusal.{Refusal}
 use Rattle.rules.specs.Formula.{Formula, neg}
 use Rattle.rules.specs.Rules.{rule_of, formula_of}
 use Rattle.grammar.specs.MetRule.{MetRule}
@@ -36,7 +38,7 @@ use Rattle.slip_search.proofs.Places.{length-numbers}
 use Rattle.slips.proofs.Said.{some_passes}
 use Rattle.claims.specs.Demand1.{Listed}
 use Rattle.claims.specs.Slips.{MetSlips, slip_rule, slip_form, slip_record, slip_then, Of, Slips}
-use Rattle.claims.proofs.Refusals.{rule_number, lent_nothing}
+use Rattle.claims.proofs.Refusals.{met_number, lent_nothing}
 use Rattle.claims.proofs.Verdicts.{demand-2}
 
 -- ── one call, whatever it answers ──
@@ -59,7 +61,7 @@ module _ (file : List ℕ) (r : Record) (refuses : ℕ → Type 0) (says : (t : 
   answered : Answered
   answered = go (rule_of file) refl
     where
-      known_by : (x : Rule) → rule_of file ≡ RuleRead.Rule x → SlipForm (formula_of file x) → Answered
+      known_by : (x : Rule) → rule_of file ≡ Ok x → SlipForm (formula_of file x) → Answered
       known_by x e s =
           let d = h.decided x e s in
           either_bool d.0
@@ -68,9 +70,9 @@ module _ (file : List ℕ) (r : Record) (refuses : ℕ → Type 0) (says : (t : 
           known (formula_of file x) (rule_says file x e) s v.log v.trace v.accepted v.encoded (h.known x e s v.log v.trace v.accepted v.encoded))
           (λ n. no_record (formula_of file x) (rule_says file x e) s (d.1.no n) (h.no_record x e s (d.1.no n)))
 
-      go : (o : RuleRead) → rule_of file ≡ o → Answered
-      go (RuleRead.Refused n) e = refused_by n (h.rule n e) ((rule_met file n).0 e)
-      go (RuleRead.Rule x) e =
+      go : (o : Result Rule Refusal) → rule_of file ≡ o → Answered
+      go (Err n) e = refused_by (number n) (h.rule n e) ((rule_met file (number n)).0 (n, (e, refl)))
+      go (Ok x) e =
           let d = h.form x e in
           either_bool d.0 (λ y. known_by x e (d.1.yes y))
           (λ n. other_form (formula_of file x) (rule_says file x e) (d.1.no n) (h.other_form x e (d.1.no n)))
@@ -87,7 +89,7 @@ module _ (file : List ℕ) (r : Record) (refuses : ℕ → Type 0) (says : (t : 
     there c a (known f m s log t acc e w) = slip_then f m s log t acc e (met t f s c w a)
 
     here : (c : ℕ) → MetSlips file r after c → A c
-    here c (slip_rule m) = to c (h.rule c ((rule_met file c).1 m))
+    here c (slip_rule m) = let w = (rule_met file c).1 m in to c (subst refuses w.1.1 (h.rule w.0 w.1.0))
     here c (slip_form f m n e) =
         let x = rule_file-taken file f m in
         subst A (sym e) (to 26 (h.other_form x.0 x.1 (λ s. n (subst SlipForm x.2 s))))
@@ -101,7 +103,7 @@ module _ (file : List ℕ) (r : Record) (refuses : ℕ → Type 0) (says : (t : 
 
 slips_listed : (file : List ℕ) (r : Record) (after : (t : Trace) (f : Formula) → SlipForm f → ℕ → Type 0) (c : ℕ)
     → ((t : Trace) (f : Formula) (s : SlipForm f) → after t f s c → Listed c) → MetSlips file r after c → Listed c
-slips_listed file r after c l (slip_rule m) = rule_number file c ((rule_met file c).1 m)
+slips_listed file r after c l (slip_rule m) = met_number file c m
 slips_listed file r after c l (slip_form f m n e) = omega arith
 slips_listed file r after c l (slip_record f m s n e) = omega arith
 slips_listed file r after c l (slip_then f m s log t acc e a) = l t f s a

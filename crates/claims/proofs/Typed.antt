@@ -26,7 +26,9 @@ use Rattle.whole_log.specs.declared.Mode.TheVariants.{FirstFailure, Full}
 use Rattle.whole_log.specs.Log.{lines_from, not_read, log_of}
 use Rattle.whole_log.specs.Part.{behind, to_failure, read_part}
 use Rattle.rules.specs.declared.Rule.{Rule}
-use Rattle.rules.specs.declared.RuleRead.{RuleRead}
+use Rattle.std.specs.Prelude.{Result, Ok, Err}
+use Rattle.refusals.specs.Refusal.{number}
+use Rattle.refusals.specs.declared.Refusal.{Refusal}
 use Rattle.rules.specs.Formula.{Formula}
 use Rattle.rules.specs.Rules.{rule_of, formula_of}
 use Rattle.rules.proofs.Rules.{rule_taken, rule_refused}
@@ -88,7 +90,7 @@ module _ (bytes before after : List ℕ) (r : Written) (left : after ≡ left_by
 judged_by : (file : List ℕ) (f : Formula) → RuleFile file f → JudgedBy file f
 judged_by file f r x e log t a v s ρ =
     let k = rule_file-taken file f r in
-    let same : x ≡ k.0 = let q : RuleRead.Rule x ≡ RuleRead.Rule k.0 = sym e ∙ k.1 in cc in
+    let same : x ≡ k.0 = let q : ◌≡◌ {A = Result Rule Refusal} (Ok x) (Ok k.0) = sym e ∙ k.1 in cc in
     let g : formula_of file x ≡ f = ap (formula_of file) same ∙ k.2 in
     subst (λ (h : Formula). (verdict_byte v ≡ 1) ↔ Satisfies t ρ h) g (s.holds ρ)
 
@@ -145,24 +147,24 @@ module _ (file : List ℕ) (room : ℕ) where
       (λ h. short_buffer h (sym (same_refusal 20 c (sym (text_short h) ∙ e))))
       (λ h. go h (rule_of file) refl)
     where
-      go : 4096 ≤ room → (q : RuleRead) → rule_of file ≡ q → MetWriting file room c
-      go h (RuleRead.Rule x) p = no_length _ c (sym (text_long h ∙ ap (Text.answer_of file) p) ∙ e)
-      go h (RuleRead.Refused d) p =
-          let q : d ≡ c = same_refusal d c (sym (text_long h ∙ ap (Text.answer_of file) p) ∙ e) in
-          rule h ((rule_met file c).0 (p ∙ ap RuleRead.Refused q))
+      go : 4096 ≤ room → (q : Result Rule Refusal) → rule_of file ≡ q → MetWriting file room c
+      go h (Ok x) p = no_length _ c (sym (text_long h ∙ ap (Text.answer_of file) p) ∙ e)
+      go h (Err d) p =
+          let q : number d ≡ c = same_refusal (number d) c (sym (text_long h ∙ ap (Text.answer_of file) p) ∙ e) in
+          rule h ((rule_met file c).0 (d, (p, q)))
 
   writing_met : (c : ℕ) → MetWriting file room c → text_answer file room ≡ Refused c
   writing_met c (short_buffer h q) = text_short h ∙ ap Refused (sym q)
-  writing_met c (rule h m) = text_long h ∙ ap (Text.answer_of file) ((rule_met file c).1 m)
+  writing_met c (rule h m) = let w = (rule_met file c).1 m in text_long h ∙ (ap (Text.answer_of file) w.1.0 ∙ ap Refused w.1.1)
 
   writing-listed : (c : ℕ) → MetWriting file room c → Listed c
   writing-listed c (short_buffer h q) = (omega arith, omega arith)
-  writing-listed c (rule h m) = let n = rule_refused file c ((rule_met file c).1 m) in (omega (arith, n.0), omega (arith, n.1))
+  writing-listed c (rule h m) = let w = (rule_met file c).1 m in let n = rule_refused file w.0 w.1.0 in (omega (arith, n.0, w.1.1), omega (arith, n.1, w.1.1))
 
   pub record Wrote (n : ℕ) : Type 0 where
     pub long : 4096 ≤ room
     pub of : Rule
-    pub read : rule_of file ≡ RuleRead.Rule of
+    pub read : rule_of file ≡ Ok of
     pub size : length (text_of file of) ≡ n
 
   wrote : (n : ℕ) → text_answer file room ≡ Length n → Wrote n
@@ -171,9 +173,9 @@ module _ (file : List ℕ) (room : ℕ) where
       (λ h. no_length n 20 (sym e ∙ text_short h))
       (λ h. go h (rule_of file) refl)
     where
-      go : 4096 ≤ room → (q : RuleRead) → rule_of file ≡ q → Wrote n
-      go h (RuleRead.Refused d) p = no_length n d (sym e ∙ (text_long h ∙ ap (Text.answer_of file) p))
-      go h (RuleRead.Rule x) p = record { long = h; of = x; read = p; size = same_length _ n (sym (text_long h ∙ ap (Text.answer_of file) p) ∙ e) }
+      go : 4096 ≤ room → (q : Result Rule Refusal) → rule_of file ≡ q → Wrote n
+      go h (Err d) p = no_length n (number d) (sym e ∙ (text_long h ∙ ap (Text.answer_of file) p))
+      go h (Ok x) p = record { long = h; of = x; read = p; size = same_length _ n (sym (text_long h ∙ ap (Text.answer_of file) p) ∙ e) }
 
 again-judged : (file : List ℕ) (g f : Formula) → RuleFile file g → ((t : Trace) (ρ : Binding) → Satisfies t ρ g ↔ Satisfies t ρ f) → JudgedBy file f
 again-judged file g f r h x e log t a v s ρ =
@@ -184,7 +186,7 @@ again-judged file g f r h x e log t a v s ρ =
 file_written : (w : WriteCall) (file : List ℕ) (g : Formula) (text : List ℕ) → RuleFile file g → rule_text g ≡ text → w.file ≡ file → 4096 ≤ length w.text → (w.answer ≡ Length (length text)) × (take (length text) w.text' ≡ text)
 file_written w file g text r q z l =
     let x = rule_file-taken file g r in
-    let p : rule_of w.file ≡ RuleRead.Rule x.0 = ap rule_of z ∙ x.1 in
+    let p : rule_of w.file ≡ Ok x.0 = ap rule_of z ∙ x.1 in
     let t : text_of w.file x.0 ≡ text = ap (λ (y : List ℕ). text_of y x.0) z ∙ (ap rule_text x.2 ∙ q) in
     let b : Text.bytes_of w.file (rule_of w.file) ≡ text = ap (Text.bytes_of w.file) p ∙ t in
     let e : w.answer ≡ Length (length text) = w.writes.answer ∙ (text_long w.file (length w.text) l ∙ (ap (Text.answer_of w.file) p ∙ ap (λ (y : List ℕ). Length (length y)) t)) in
@@ -209,11 +211,11 @@ module _ (lay : Layout) (one two : List ℕ) (x y : Rule) (same : (u : Trace) �
       go h (next u) = ap (λ (v : Verdict). lines_from lay one x u ls w (set out t.lines (verdict_byte v))) (same u) ∙ h u (set out t.lines (verdict_byte (verdict_of u (formula_of two y))))
       go h (refused c) = refl
 
-  log_same : (log out : List ℕ) → rule_of one ≡ RuleRead.Rule x → rule_of two ≡ RuleRead.Rule y → log_of lay one log w out ≡ log_of lay two log w out
+  log_same : (log out : List ℕ) → rule_of one ≡ Ok x → rule_of two ≡ Ok y → log_of lay one log w out ≡ log_of lay two log w out
   unfolding log_of with_rule
   log_same log out p q =
       let short : Bool = ltb (length w) (work_size lay) || ltb (length out) max_lines in
-      let by : List ℕ → RuleRead → LogRead × List ℕ × List ℕ = λ file r. cond short (not_read 20, w, out) (with_rule r (λ n. (not_read n, w, out)) (λ z. lines_from lay file z no_trace (lines_of log) w out)) in
+      let by : List ℕ → Result Rule Refusal → LogRead × List ℕ × List ℕ = λ file r. cond short (not_read 20, w, out) (with_rule r (λ n. (not_read n, w, out)) (λ z. lines_from lay file z no_trace (lines_of log) w out)) in
       ap (by one) p ∙ (ap (λ (z : LogRead × List ℕ × List ℕ). cond short (not_read 20, w, out) z) (lines_same (lines_of log) no_trace out) ∙ sym (ap (by two) q))
 
 -- and the part that is read in a mode
@@ -229,14 +231,14 @@ module _ (one two : List ℕ) (x y : Rule) (same : (u : Trace) → verdict_of u 
       by_step (next u) rest = λ i. behind (same u i) (rest u i)
       by_step (refused c) rest = refl
 
-  part_by_verdicts : rule_of one ≡ RuleRead.Rule x → rule_of two ≡ RuleRead.Rule y → (mode : Mode) (log : List ℕ) → read_part mode one log ≡ read_part mode two log
+  part_by_verdicts : rule_of one ≡ Ok x → rule_of two ≡ Ok y → (mode : Mode) (log : List ℕ) → read_part mode one log ≡ read_part mode two log
   unfolding read_part with_rule
   part_by_verdicts p q Full log = refl
   part_by_verdicts p q FirstFailure log =
-      let by : List ℕ → RuleRead → List ℕ = λ file r. with_rule r (λ n. log) (λ z. flat (to_failure file z no_trace (lines_of log))) in
+      let by : List ℕ → Result Rule Refusal → List ℕ = λ file r. with_rule r (λ n. log) (λ z. flat (to_failure file z no_trace (lines_of log))) in
       ap (by one) p ∙ (ap flat (behind_same (lines_of log) no_trace) ∙ sym (ap (by two) q))
 
-same_verdicts : (one two : List ℕ) (x y : Rule) → rule_of one ≡ RuleRead.Rule x → rule_of two ≡ RuleRead.Rule y
+same_verdicts : (one two : List ℕ) (x y : Rule) → rule_of one ≡ Ok x → rule_of two ≡ Ok y
     → ((t : Trace) (ρ : Binding) → Satisfies t ρ (formula_of one x) ↔ Satisfies t ρ (formula_of two y))
     → (u : Trace) → verdict_of u (formula_of one x) ≡ verdict_of u (formula_of two y)
 same_verdicts one two x y p q h u =
@@ -254,7 +256,7 @@ module _ (k : WriteCall) where
   }
 
   -- the text, read again
-  again : (x : Rule) → rule_of k.file ≡ RuleRead.Rule x → (text : List ℕ) → text ≡ rule_text (formula_of k.file x) → (j : ReadCall) → j.text ≡ text → 599 ≤ length j.rule → Again (formula_of k.file x) text j
+  again : (x : Rule) → rule_of k.file ≡ Ok x → (text : List ℕ) → text ≡ rule_text (formula_of k.file x) → (j : ReadCall) → j.text ≡ text → 599 ≤ length j.rule → Again (formula_of k.file x) text j
   again x p text q j e h =
       let f = formula_of k.file x in
       let a = read_again k.file x (rule_taken k.file x p) in
@@ -275,10 +277,10 @@ module _ (k : WriteCall) where
   -- the file that is read, and that its verdicts are those of the file that was written
   record SameRule (x : Rule) (file : List ℕ) : Type 0 where
     pub of : Rule
-    pub read : rule_of file ≡ RuleRead.Rule of
+    pub read : rule_of file ≡ Ok of
     pub same : (u : Trace) → verdict_of u (formula_of file of) ≡ verdict_of u (formula_of k.file x)
 
-  read_same_lem : (x : Rule) → rule_of k.file ≡ RuleRead.Rule x → (text : List ℕ) → text ≡ rule_text (formula_of k.file x) → (j : ReadCall) (m : ℕ) → j.text ≡ text → j.answer ≡ Length m
+  read_same_lem : (x : Rule) → rule_of k.file ≡ Ok x → (text : List ℕ) → text ≡ rule_text (formula_of k.file x) → (j : ReadCall) (m : ℕ) → j.text ≡ text → j.answer ≡ Length m
       → SameRule x (take m j.rule')
   read_same_lem x p text q j m e a =
       let g = again x p text q j e (long_enough j m a) in
@@ -290,13 +292,13 @@ module _ (k : WriteCall) where
         same = same_verdicts (take m j.rule') k.file y.0 x y.1 p (λ t ρ. subst (λ (f : Formula). Satisfies t ρ f ↔ Satisfies t ρ (formula_of k.file x)) (sym y.2) (g.verdict t ρ));
       }
 
-  checks_same : (x : Rule) → rule_of k.file ≡ RuleRead.Rule x → (text : List ℕ) → text ≡ rule_text (formula_of k.file x) → (j : ReadCall) (m : ℕ) → j.text ≡ text → j.answer ≡ Length m
+  checks_same : (x : Rule) → rule_of k.file ≡ Ok x → (text : List ℕ) → text ≡ rule_text (formula_of k.file x) → (j : ReadCall) (m : ℕ) → j.text ≡ text → j.answer ≡ Length m
       → (lay : Layout) (log w out : List ℕ) → log_of lay (take m j.rule') log w out ≡ log_of lay k.file log w out
   checks_same x p text q j m e a lay log w out =
       let y = read_same_lem x p text q j m e a in
       log_same lay (take m j.rule') k.file y.of x y.same w log out y.read p
 
-  parts_same : (x : Rule) → rule_of k.file ≡ RuleRead.Rule x → (text : List ℕ) → text ≡ rule_text (formula_of k.file x) → (j : ReadCall) (m : ℕ) → j.text ≡ text → j.answer ≡ Length m
+  parts_same : (x : Rule) → rule_of k.file ≡ Ok x → (text : List ℕ) → text ≡ rule_text (formula_of k.file x) → (j : ReadCall) (m : ℕ) → j.text ≡ text → j.answer ≡ Length m
       → (mode : Mode) (log : List ℕ) → read_part mode (take m j.rule') log ≡ read_part mode k.file log
   parts_same x p text q j m e a mode log =
       let y = read_same_lem x p text q j m e a in

@@ -22,7 +22,9 @@ use Rattle.pairs.specs.Start.{start_of}
 use Rattle.pairs.specs.declared.Started.{Started}
 use Rattle.pairs.proofs.Area.{length_area}
 use Rattle.rules.specs.declared.Rule.{Rule}
-use Rattle.rules.specs.declared.RuleRead.{RuleRead}
+use Rattle.std.specs.Prelude.{Result, Ok, Err}
+use Rattle.refusals.specs.Refusal.{number}
+use Rattle.refusals.specs.declared.Refusal.{Refusal}
 use Rattle.rules.specs.Rules.{rule_of}
 use Rattle.reading.specs.declared.Ending.{Ending}
 use Rattle.reading.specs.Left.{Left}
@@ -32,7 +34,7 @@ use Rattle.single.specs.Line.{refusing, line_after, advance_of, with_rule}
 use Rattle.tallies.specs.declared.Tallied.{Tallied}
 use Rattle.tallies.specs.Tally.{refusing_with, counts?, tallied_after, tallied_state}
 use Rattle.whole_log.specs.Log.{not_read, lines_from, log_of, LogMeans}
-use Rattle.whole_log.specs.Repeated.{Result}
+use Rattle.whole_log.specs.Repeated.{Result as Read}
 use Rattle.whole_log.proofs.LogMeans.{log_means}
 use Rattle.report.specs.declared.Reported.{Reported}
 use Rattle.report.specs.Text.{report_text}
@@ -108,7 +110,7 @@ start_bytes lay w =
 
 -- ── a whole log ──
 module _ (lay : Layout) (file log w out : List ℕ) where
-  abbrev Whole : Result → Type 0
+  abbrev Whole : Read → Type 0
   Whole z = Beyond (work_size lay) w z.1 × Beyond z.0.state.lines.0 out z.2
 
   unread_bytes : (n : ℕ) → Whole (not_read n, w, out)
@@ -118,11 +120,11 @@ module _ (lay : Layout) (file log w out : List ℕ) where
   unfolding log_of
   short_log b = simp b
 
-  unruled_log : (n : ℕ) → rule_of file ≡ RuleRead.Refused n → work_size lay ≤ length w → max_lines ≤ length out → log_of lay file log w out ≡ (not_read n, w, out)
+  unruled_log : (n : Refusal) → rule_of file ≡ Err n → work_size lay ≤ length w → max_lines ≤ length out → log_of lay file log w out ≡ (not_read (number n), w, out)
   unfolding log_of with_rule
-  unruled_log n e s v = simp (le-ltb _ _ s, le-ltb _ _ v) (ap (λ (z : RuleRead). with_rule {A = Result} z (λ m. (not_read m, w, out)) (λ x. lines_from lay file x no_trace (lines_of log) w out)) e)
+  unruled_log n e s v = simp (le-ltb _ _ s, le-ltb _ _ v) (ap (λ (z : Result Rule Refusal). with_rule {A = Read} z (λ m. (not_read m, w, out)) (λ x. lines_from lay file x no_trace (lines_of log) w out)) e)
 
-  module _ (x : Rule) (e : rule_of file ≡ RuleRead.Rule x) (s : work_size lay ≤ length w) (v : max_lines ≤ length out) where
+  module _ (x : Rule) (e : rule_of file ≡ Ok x) (s : work_size lay ≤ length w) (v : max_lines ≤ length out) where
     abbrev means : LogMeans lay file x log w out (log_of lay file log w out).0 (log_of lay file log w out).1 (log_of lay file log w out).2
     means = log_means lay file log w out _ _ _ refl x e s v
 
@@ -133,9 +135,9 @@ module _ (lay : Layout) (file log w out : List ℕ) where
     read_bytes : Whole (log_of lay file log w out)
     read_bytes = (read_work (log_of lay file log w out).0.ending refl, record { length = means.size; bytes = means.rest })
 
-  by_rule : (q : RuleRead) → rule_of file ≡ q → work_size lay ≤ length w → max_lines ≤ length out → Whole (log_of lay file log w out)
-  by_rule (RuleRead.Refused n) e s v = subst Whole (sym (unruled_log n e s v)) (unread_bytes n)
-  by_rule (RuleRead.Rule x) e s v = read_bytes x e s v
+  by_rule : (q : Result Rule Refusal) → rule_of file ≡ q → work_size lay ≤ length w → max_lines ≤ length out → Whole (log_of lay file log w out)
+  by_rule (Err n) e s v = subst Whole (sym (unruled_log n e s v)) (unread_bytes (number n))
+  by_rule (Ok x) e s v = read_bytes x e s v
 
   pub log_bytes : Whole (log_of lay file log w out)
   log_bytes =

@@ -30,7 +30,7 @@ use Rattle.relations.specs.Runs.{FinishedRun, RelatesRuns}
 use Rattle.relations.specs.Pairs.{Noted}
 use Rattle.relations.proofs.Pairs.{pair_byte_noted}
 use Rattle.rules.specs.declared.Rule.{Rule}
-use Rattle.rules.specs.declared.RuleRead.TheVariants as RuleRead
+use Rattle.std.specs.Prelude.{Ok}
 use Rattle.rules.specs.Rules.{rule_of, formula_of}
 use Rattle.logic.specs.declared.Verdict.{Verdict}
 use Rattle.logic.specs.Satisfies.{Related}
@@ -115,14 +115,14 @@ started lay w =
     (λ s. simp (le-ltb (length w) (work_size lay) s) (λ e. left_settled lay [] no_trace _ _ (left_by_lem lay [] no_trace no_bytes w)))
 
 -- ── one line ──
-module _ (k : LineCall) (x : Rule) (rule : rule_of k.file ≡ RuleRead.Rule x) (log : List ℕ) (t : Trace) (l : Left k.layout log t k.state k.work) (v : Verdict) (o : k.answer.outcome ≡ judged v) where
+module _ (k : LineCall) (x : Rule) (rule : rule_of k.file ≡ Ok x) (log : List ℕ) (t : Trace) (l : Left k.layout log t k.state k.work) (v : Verdict) (o : k.answer.outcome ≡ judged v) where
   line_judged : Judged k.layout k.file x (log ++ k.line) k.answer.state k.work' v
   unfolding left_settled
   line_judged =
       let m = (k.checks.meaning x rule log t l).taken v o in
       record { settled = left_settled k.layout _ m.trace _ _ (over k.layout _ m.trace _ k.work _ m.accepted m.state m.pairs); verdict = m.verdict }
 
-module _ (k : TalliedCall) (x : Rule) (rule : rule_of k.file ≡ RuleRead.Rule x) (log : List ℕ) (t : Trace) (l : Left k.layout log t k.state k.work) (v : Verdict) (o : k.answer.outcome ≡ judged v) where
+module _ (k : TalliedCall) (x : Rule) (rule : rule_of k.file ≡ Ok x) (log : List ℕ) (t : Trace) (l : Left k.layout log t k.state k.work) (v : Verdict) (o : k.answer.outcome ≡ judged v) where
   -- a line that is taken does not meet 24
   tally_right : counts? t k.tally ≡ true
   tally_right =
@@ -153,7 +153,7 @@ some_left l ls e = absurd (let z : ◌≡◌ {A = ℕ} 0 1 = ap kept_count e in 
 not_read_lem : {C : Type 0} (c n : ℕ) → Ending.Refused c n ≡ Ending.Read → C
 not_read_lem c n e = absurd (let z : ◌≡◌ {A = ℕ} 0 1 = cc in omega arith)
 
-module _ (k : LogCall) (x : Rule) (rule : rule_of k.file ≡ RuleRead.Rule x) (long : work_size k.layout ≤ length k.work) (room : max_lines ≤ length k.verdicts) where
+module _ (k : LogCall) (x : Rule) (rule : rule_of k.file ≡ Ok x) (long : work_size k.layout ≤ length k.work) (room : max_lines ≤ length k.verdicts) where
   line_verdicts : (n : ℕ) (part : List ℕ) (u : Trace) → n < length (lines_of (log_part k)) → lines_of part ≡ take (suc n) (lines_of (log_part k)) → Accepted part u
       → (v : Verdict) × (get_or k.verdicts' n 0 ≡ verdict_byte v) × Says u (formula_of k.file x) v
   unfolding read

@@ -17,7 +17,9 @@ use Rattle.trace.specs.Orderly.{finished_runs}
 use Rattle.trace.proofs.Finished.{finished_few}
 use Rattle.trace.proofs.Taken.{line_lines, by_answer_lem}
 use Rattle.rules.specs.declared.Rule.{Rule}
-use Rattle.rules.specs.declared.RuleRead.{RuleRead}
+use Rattle.std.specs.Prelude.{Result, Ok, Err}
+use Rattle.refusals.specs.Refusal.{number}
+use Rattle.refusals.specs.declared.Refusal.{Refusal}
 use Rattle.rules.specs.Rules.{rule_of, formula_of}
 use Rattle.grammar.proofs.RuleMet.{rule_met}
 use Rattle.logic.specs.Verdict.{verdict_of}
@@ -192,14 +194,14 @@ module _ (lay : Layout) (w out : List ℕ) where
     unfolding log_of
     log_short s = simp s
 
-    log_rule : RuleRead → End
+    log_rule : Result Rule Refusal → End
     log_rule q = with_rule q (λ n. (not_read n, w, out)) (λ x. lines_from lay file x no_trace (lines_of log) w out)
 
-    log_by_rule : work_size lay ≤ length w → 256 ≤ length out → (q : RuleRead) → rule_of file ≡ q → (log_of lay file log w out).0.ending ≡ (log_rule q).0.ending
+    log_by_rule : work_size lay ≤ length w → 256 ≤ length out → (q : Result Rule Refusal) → rule_of file ≡ q → (log_of lay file log w out).0.ending ≡ (log_rule q).0.ending
     unfolding log_of log_rule
     log_by_rule s v q e =
         let b : ltb (length w) (work_size lay) || ltb (length out) 256 ≡ false = simp (le-ltb _ _ s, le-ltb _ _ v) in
-        simp b (ap (λ (z : RuleRead). (log_rule z).0.ending) e)
+        simp b (ap (λ (z : Result Rule Refusal). (log_rule z).0.ending) e)
 
 log_of_met : (lay : Layout) (file log w out : List ℕ) (c n : ℕ) → ((log_of lay file log w out).0.ending ≡ Ending.Refused c n) ↔ MetLog lay file log w out c n
 unfolding log_rule with_rule read first_refused
@@ -208,14 +210,14 @@ log_of_met lay file log w out c n = (forth, back)
     short : Short lay w out → (log_of lay file log w out).0.ending ≡ Ending.Refused 20 0
     short = log_short lay w out file log
 
-    rule : work_size lay ≤ length w → 256 ≤ length out → (q : RuleRead) → rule_of file ≡ q → (log_of lay file log w out).0.ending ≡ (log_rule lay w out file log q).0.ending
+    rule : work_size lay ≤ length w → 256 ≤ length out → (q : Result Rule Refusal) → rule_of file ≡ q → (log_of lay file log w out).0.ending ≡ (log_rule lay w out file log q).0.ending
     rule = log_by_rule lay w out file log
 
-    reading : work_size lay ≤ length w → 256 ≤ length out → (q : RuleRead) → rule_of file ≡ q → (log_of lay file log w out).0.ending ≡ Ending.Refused c n → MetLog lay file log w out c n
-    reading s v (RuleRead.Refused m) q e =
-        let p = same_ending c m n 0 (sym (rule s v _ q) ∙ e) in
-        log-rule s v ((rule_met file c).0 (q ∙ ap RuleRead.Refused p.0)) (sym p.1)
-    reading s v (RuleRead.Rule x) q e =
+    reading : work_size lay ≤ length w → 256 ≤ length out → (q : Result Rule Refusal) → rule_of file ≡ q → (log_of lay file log w out).0.ending ≡ Ending.Refused c n → MetLog lay file log w out c n
+    reading s v (Err m) q e =
+        let p = same_ending c (number m) n 0 (sym (rule s v _ q) ∙ e) in
+        log-rule s v ((rule_met file c).0 (m, (q, p.0))) (sym p.1)
+    reading s v (Ok x) q e =
         let g : Stopped lay file x w no_trace (lines_of log) out c n = stops lay file x w (lines_of log) no_trace out c n (sym (rule s v _ q) ∙ e) in
         log_line s v (taken_ruled file x q) (first_refused lay file x w log out c n g)
         ((after_met (start_of lay file x w (lines_of log) out c n g) g.trace (start_accepted lay file x w (lines_of log) out c n g) g.line c).0 g.why)
@@ -232,7 +234,9 @@ log_of_met lay file log w out c n = (forth, back)
     back : MetLog lay file log w out c n → (log_of lay file log w out).0.ending ≡ Ending.Refused c n
     back (short_work s e m) = short (is_short_work lay w out s) ∙ (λ i. Ending.Refused (sym e i) (sym m i))
     back (short_verdicts s e m) = short (is_short_verdicts lay w out s) ∙ (λ i. Ending.Refused (sym e i) (sym m i))
-    back (log-rule s v q m) = rule s v _ ((rule_met file c).1 q) ∙ ap (Ending.Refused c) (sym m)
+    back (log-rule s v q m) =
+        let w = (rule_met file c).1 q in
+        rule s v _ w.1.0 ∙ (λ i. Ending.Refused (w.1.1 i) (sym m i))
     back (log_line s v g f m) =
         let z = ruled_taken file g in
         let x = z.0 in

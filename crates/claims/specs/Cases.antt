@@ -7,7 +7,7 @@ use Rattle.pairs.specs.declared.Layout.TheVariants.{Square, Half}
 use Rattle.pairs.specs.Layout.{place}
 use Rattle.pairs.specs.Pairs.{work_of}
 use Rattle.relations.specs.Compose.{Examples}
-use Rattle.rules.specs.declared.RuleRead.TheVariants as RuleRead
+use Rattle.std.specs.Prelude.{Ok}
 use Rattle.rules.specs.Rules.{rule_of, formula_of}
 use Rattle.rules.specs.Cases.{p1_file, p1_rule, no_evening_includes_test, p10_file, p10_rule, some_same_as_itself}
 use Rattle.logic.specs.declared.Verdict.TheVariants as Verdict
@@ -31,7 +31,7 @@ use Rattle.claims.specs.BookCases.{BookCases}
 
 pub record P1 : Type 0 where
   pub size : length p1_file ≡ 44
-  pub rule : rule_of p1_file ≡ RuleRead.Rule p1_rule
+  pub rule : rule_of p1_file ≡ Ok p1_rule
   pub formula : formula_of p1_file p1_rule ≡ no_evening_includes_test
   -- H, H, H, F
   pub verdicts : (lay : Layout) (w out : List ℕ) → Long lay w out
@@ -56,7 +56,7 @@ P9 = (lay : Layout) (w out : List ℕ) → Long lay w out
 
 -- "rule "some A, same A A" over `B 1`, `E 1` gives F, F", in the full mode
 pub record P10 : Type 0 where
-  pub rule : rule_of p10_file ≡ RuleRead.Rule p10_rule
+  pub rule : rule_of p10_file ≡ Ok p10_rule
   pub formula : formula_of p10_file p10_rule ≡ some_same_as_itself
   pub verdicts : (lay : Layout) (w out : List ℕ) → Long lay w out
       → (log_of lay p10_file (read_part Full p10_file (bytes "B 1\nE 1\n")) w out).2 ≡ set (set out 0 0) 1 0

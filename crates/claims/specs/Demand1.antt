@@ -14,7 +14,10 @@ use Rattle.relations.specs.declared.Related as Answer
 use Rattle.relations.specs.declared.Composed.{Composed}
 use Rattle.relations.specs.Runs.{Relating, Conversed}
 use Rattle.relations.specs.Compose.{Composition}
-use Rattle.rules.specs.declared.RuleRead.{RuleRead}
+use Rattle.std.specs.Prelude.{Result}
+use Rattle.refusals.specs.Refusal.{RefusedWith}
+use Rattle.refusals.specs.declared.Refusal.{Refusal}
+use Rattle.rules.specs.declared.Rule.{Rule}
 use Rattle.rules.specs.Rules.{ReadsRule}
 use Rattle.reading.specs.declared.Ending.TheVariants as Ending
 use Rattle.reading.specs.Reading.{ended}
@@ -78,8 +81,8 @@ pub record Demand1 : Type 0 where
   pub converse : (a : ℕ) (v : Composed) → Conversed a v → (c : ℕ)
       → Refuses c (v ≡ Composed.Refused c) ((63 < a) × (c ≡ 14)) (Unit {0})
   -- reading: a rule file, one line, the next line of a log
-  pub rule : (file : List ℕ) (q : RuleRead) → ReadsRule file q → (c : ℕ)
-      → Refuses c (q ≡ RuleRead.Refused c) (MetRule file c) (Unit {0})
+  pub rule : (file : List ℕ) (q : Result Rule Refusal) → ReadsRule file q → (c : ℕ)
+      → Refuses c (RefusedWith c q) (MetRule file c) (Unit {0})
   pub parse : (line : List ℕ) (c : ℕ) → Refuses c (parsed_of line ≡ Parsed.Refused c) (MetBytes line c) (Unit {0})
   pub next : (log : List ℕ) (p c : ℕ)
       → Refuses c (next_line log p ≡ Next.Refused c)

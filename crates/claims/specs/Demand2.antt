@@ -15,7 +15,9 @@ use Rattle.relations.specs.declared.Related as Answer
 use Rattle.relations.specs.declared.Related.TheVariants as RelateAnswer
 use Rattle.relations.specs.Runs.{Relating, RelatedAs}
 use Rattle.rules.specs.declared.Rule.{Rule}
-use Rattle.rules.specs.declared.RuleRead.TheVariants as RuleRead
+use Rattle.std.specs.Prelude.{Ok, Err}
+use Rattle.refusals.specs.Refusal.{number}
+use Rattle.refusals.specs.declared.Refusal.{Refusal}
 use Rattle.rules.specs.Formula.{Formula}
 use Rattle.rules.specs.Rules.{rule_of, formula_of}
 use Rattle.grammar.specs.Stands.{RuleFile}
@@ -42,16 +44,16 @@ use Rattle.accepted_logs.specs.Spoken.{Spoken, Accepting}
 pub record Demand2 : Type 0 where
   -- a file that is taken is a rule file, and its formula the one that its table stands for
   pub rule : (file : List ℕ) (f : Formula)
-      → RuleFile file f ↔ ((x : Rule) × (rule_of file ≡ RuleRead.Rule x) × (formula_of file x ≡ f))
+      → RuleFile file f ↔ ((x : Rule) × (rule_of file ≡ Ok x) × (formula_of file x ≡ f))
   -- a record that is started is that of no lines
   pub start : (k : StartCall) → k.answer.outcome ≡ Start.Ready → Settled k.layout [] k.answer.state k.work'
   -- a line that the single-line call takes on what accepted lines left
-  pub line : (k : LineCall) (x : Rule) → rule_of k.file ≡ RuleRead.Rule x → (log : List ℕ) (t : Trace)
+  pub line : (k : LineCall) (x : Rule) → rule_of k.file ≡ Ok x → (log : List ℕ) (t : Trace)
       → Left k.layout log t k.state k.work → (v : Verdict) → k.answer.outcome ≡ judged v
       → Judged k.layout k.file x (log ++ k.line) k.answer.state k.work' v
   -- the same with a tally: "failing lines rise by 1 exactly at a line whose verdict fails", and the tally of the log
   -- becomes that of the log with the line
-  pub tallied : (k : TalliedCall) (x : Rule) → rule_of k.file ≡ RuleRead.Rule x → (log : List ℕ) (t : Trace)
+  pub tallied : (k : TalliedCall) (x : Rule) → rule_of k.file ≡ Ok x → (log : List ℕ) (t : Trace)
       → Left k.layout log t k.state k.work → (v : Verdict) → k.answer.outcome ≡ judged v
       → Judged k.layout k.file x (log ++ k.line) k.answer.state k.work' v
       × TallyCounts (log ++ k.line) k.answer.tally × (k.answer.tally.failing ≡ k.tally.failing + failed v)
@@ -66,13 +68,13 @@ pub record Demand2 : Type 0 where
   pub relate : (r : Record) (a b : RunNo) (v : Answer.Related) → Relating r a b v → (log : List ℕ) (t : Trace)
       → Accepted log t → r ≡ record_of t → (n : ℕ) → (v ≡ RelateAnswer.Relation n) ↔ RelatedAs t a.0 b.0 n
   -- the lines of the part of a whole log that is read (`Modes` says which), and the lines of its report
-  pub log : (k : LogCall) (x : Rule) → rule_of k.file ≡ RuleRead.Rule x → work_size k.layout ≤ length k.work
+  pub log : (k : LogCall) (x : Rule) → rule_of k.file ≡ Ok x → work_size k.layout ≤ length k.work
       → max_lines ≤ length k.verdicts → Reads k x
   pub report : (k : ReportCall) (n : ℕ) → k.answer ≡ Reported.Length n
-      → ((x : Rule) → rule_of k.file ≡ RuleRead.Rule x → TextMeans k.file x (report_part k) (take n k.text'))
-      × ((c : ℕ) → rule_of k.file ≡ RuleRead.Refused c → take n k.text' ≡ refused_text 0 c)
+      → ((x : Rule) → rule_of k.file ≡ Ok x → TextMeans k.file x (report_part k) (take n k.text'))
+      × ((e : Refusal) → rule_of k.file ≡ Err e → take n k.text' ≡ refused_text 0 (number e))
   -- the whole-log call is the repeated single-line call, its verdicts are those of prefixes, and first bytes decide
-  pub repeats : (lay : Layout) (file log w out : List ℕ) (x : Rule) → rule_of file ≡ RuleRead.Rule x
+  pub repeats : (lay : Layout) (file log w out : List ℕ) (x : Rule) → rule_of file ≡ Ok x
       → work_size lay ≤ length w → max_lines ≤ length out
       → Repeats lay file (start_of lay w).0.state (start_of lay w).1 (lines_of log) out (log_of lay file log w out)
   pub prefixes : (lay : Layout) (file w out log part : List ℕ) (n : ℕ) → lines_of part ≡ take (suc n) (lines_of log)

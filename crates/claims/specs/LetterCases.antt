@@ -5,7 +5,8 @@ use Rattle.labels.specs.Label.{capital, label_no, label_of}
 use Rattle.labels.specs.Table.{first_place}
 use Rattle.trace.specs.declared.Run.{Run}
 use Rattle.trace.specs.Trace.{Answer, next, refused, line, read}
-use Rattle.rules.specs.declared.RuleRead.TheVariants as RuleRead
+use Rattle.std.specs.Prelude.{Ok, Err}
+use Rattle.refusals.specs.declared.Refusal.TheVariants.{RuleLabel}
 use Rattle.rules.specs.Rules.{rule_of, formula_of}
 use Rattle.rules.specs.Cases.{p1_file, p1_rule, no_evening_includes_test}
 use Rattle.output.specs.declared.Written.TheVariants.{Length, Refused}
@@ -56,12 +57,12 @@ pub record LetterCases : Type 0 where
   -- P1 with its labels in other cases, in the log and in the rule file
   pub p1-log : report_text p1_file (bytes "B 7 evening\nB 9 Test\nE 9\nE 7\n")
       ≡ bytes "1 H\n2 H\n3 H\n4 F\nT 4 2 2 0 1\n"
-  pub p1-rule : rule_of p1_small ≡ RuleRead.Rule p1_rule
+  pub p1-rule : rule_of p1_small ≡ Ok p1_rule
   pub p1-formula : formula_of p1_small p1_rule ≡ no_evening_includes_test
   -- "5 does for two labels in a rule file's list that differ only in case"
-  pub listed : rule_of (two_labels 65 97) ≡ RuleRead.Refused 5
-  pub listed_back : rule_of (two_labels 122 90) ≡ RuleRead.Refused 5
-  pub different : rule_of (two_labels 65 98) ≡ RuleRead.Rule (record { labels = 2; nodes = 11; count = 2 })
+  pub listed : rule_of (two_labels 65 97) ≡ Err RuleLabel
+  pub listed_back : rule_of (two_labels 122 90) ≡ Err RuleLabel
+  pub different : rule_of (two_labels 65 98) ≡ Ok (record { labels = 2; nodes = 11; count = 2 })
   -- "in a typed rule those are one label", and the rule that is written has the capitals
   pub typed-p1 : bytes_of (bytes "!exist A, B . A('evening') & B('Test') & A i B")
       (read_text (bytes "!exist A, B . A('evening') & B('Test') & A i B")) ≡ p1_file

@@ -8,7 +8,7 @@ use Rattle.lines.specs.Log.{lines_of}
 use Rattle.trace.specs.Trace.{Trace, Accepted}
 use Rattle.pairs.specs.Layout.{work_size}
 use Rattle.rules.specs.declared.Rule.{Rule}
-use Rattle.rules.specs.declared.RuleRead.TheVariants as RuleRead
+use Rattle.std.specs.Prelude.{Ok}
 use Rattle.rules.specs.Rules.{rule_of}
 use Rattle.reading.specs.declared.Ending.TheVariants as Ending
 use Rattle.whole_log.specs.declared.Mode.{Mode}
@@ -49,7 +49,7 @@ pub record SameLeftReport (j k : ReportCall) : Type 0 where
 
 -- a call whose rule is taken and whose buffers are long enough
 pub record Taking (k : LogCall) (x : Rule) : Type 0 where
-  pub rule : rule_of k.file ≡ RuleRead.Rule x
+  pub rule : rule_of k.file ≡ Ok x
   pub work : work_size k.layout ≤ length k.work
   pub verdicts : max_lines ≤ length k.verdicts
 
@@ -64,11 +64,11 @@ pub record EndsReport (k : ReportCall) (x : Rule) (n : ℕ) : Type 0 where
 
 pub record Modes : Type 0 where
   -- what is read: in the full mode the whole log; by default the shortest part that ends in a failing line, or all
-  pub reads : (mode : Mode) (file : List ℕ) (x : Rule) (log : List ℕ) → rule_of file ≡ RuleRead.Rule x
+  pub reads : (mode : Mode) (file : List ℕ) (x : Rule) (log : List ℕ) → rule_of file ≡ Ok x
       → PartOf mode file x log (read_part mode file log)
-  pub part : (k : LogCall) (x : Rule) → rule_of k.file ≡ RuleRead.Rule x
+  pub part : (k : LogCall) (x : Rule) → rule_of k.file ≡ Ok x
       → PartOf k.mode k.file x k.log (log_part k)
-  pub report-part : (k : ReportCall) (x : Rule) → rule_of k.file ≡ RuleRead.Rule x
+  pub report-part : (k : ReportCall) (x : Rule) → rule_of k.file ≡ Ok x
       → PartOf k.mode k.file x k.log (report_part k)
   -- there is one such part
   pub one : (mode : Mode) (file : List ℕ) (x : Rule) (log p q : List ℕ) → PartOf mode file x log p
@@ -81,12 +81,12 @@ pub record Modes : Type 0 where
       → EndsFailing k.file x k.log p → k.answer.ending ≡ Ending.Read
   -- .. and no R is printed: the F line is printed and counted, and then comes the tally
   pub no_refusal-report : (k : ReportCall) (n : ℕ) (x : Rule) → k.answer ≡ Reported.Length n
-      → rule_of k.file ≡ RuleRead.Rule x → k.mode ≡ FirstFailure → (p : List ℕ)
+      → rule_of k.file ≡ Ok x → k.mode ≡ FirstFailure → (p : List ℕ)
       → EndsFailing k.file x k.log p → EndsReport k x n
   -- .. and whatever stands behind that line, of any bytes, makes no difference
-  pub behind : (j k : LogCall) (x : Rule) → rule_of k.file ≡ RuleRead.Rule x → SameLent j k → j.mode ≡ FirstFailure
+  pub behind : (j k : LogCall) (x : Rule) → rule_of k.file ≡ Ok x → SameLent j k → j.mode ≡ FirstFailure
       → k.mode ≡ FirstFailure → (p r : List ℕ) → EndsFailing k.file x k.log p → j.log ≡ p ++ r → SameLeft j k
-  pub behind-report : (j k : ReportCall) (x : Rule) → rule_of k.file ≡ RuleRead.Rule x → SameLentReport j k
+  pub behind-report : (j k : ReportCall) (x : Rule) → rule_of k.file ≡ Ok x → SameLentReport j k
       → j.mode ≡ FirstFailure → k.mode ≡ FirstFailure → (p r : List ℕ) → EndsFailing k.file x k.log p
       → j.log ≡ p ++ r → SameLeftReport j k
   -- by default every line that is taken holds, but for the last one if a line fails

@@ -4,7 +4,7 @@ use Rattle.std.specs.Prelude.{ℕ, ◌≤◌, ◌<◌, ◌≡◌, ◌↔◌, Lis
 use Rattle.trace.specs.Trace.{Trace, Accepted}
 use Rattle.pairs.specs.declared.Layout.{Layout}
 use Rattle.rules.specs.declared.Rule.{Rule}
-use Rattle.rules.specs.declared.RuleRead.TheVariants as RuleRead
+use Rattle.std.specs.Prelude.{Ok}
 use Rattle.rules.specs.Formula.{Formula}
 use Rattle.rules.specs.Rules.{rule_of, formula_of}
 use Rattle.grammar.specs.MetRule.{MetRule}
@@ -54,7 +54,7 @@ pub data MetWriting (file : List ℕ) (room c : ℕ) : Type 0 where
 -- the verdicts of a rule file are those of the formula f: of accepted lines, "holds" exactly if they satisfy it
 abbrev pub JudgedBy : List ℕ → Formula → Type 0
 JudgedBy file f =
-    (x : Rule) → rule_of file ≡ RuleRead.Rule x → (log : List ℕ) (t : Trace) → Accepted log t
+    (x : Rule) → rule_of file ≡ Ok x → (log : List ℕ) (t : Trace) → Accepted log t
     → (v : Verdict) → Says t (formula_of file x) v → (ρ : Binding) → (verdict_byte v ≡ 1) ↔ Satisfies t ρ f
 
 -- a text that is read into n bytes

@@ -12,7 +12,9 @@ use Rattle.trace.specs.Trace.{Trace}
 use Rattle.trace.specs.Record.{record_of, Valid}
 use Rattle.trace.proofs.Bounds.{accepted-bounded}
 use Rattle.rules.specs.declared.Rule.{Rule}
-use Rattle.rules.specs.declared.RuleRead.{RuleRead}
+use Rattle.std.specs.Prelude.{Result, Ok, Err}
+use Rattle.refusals.specs.Refusal.{number}
+use Rattle.refusals.specs.declared.Refusal.{Refusal}
 use Rattle.rules.specs.Formula.{Formula, neg}
 use Rattle.rules.specs.Rules.{rule_of, formula_of}
 use Rattle.logic.specs.Satisfies.{Binding, bind}
@@ -51,14 +53,14 @@ module _ (file : List ℕ) (r : Record) (a : Finding) (f : FindsFirst file r a) 
   pub found_few : Valid r → a.slip.count ≤ 4
   found_few v = on (rule_of file) refl
     where
-      formed : (x : Rule) → rule_of file ≡ RuleRead.Rule x → SlipForm (formula_of file x) → a.slip.count ≤ 4
+      formed : (x : Rule) → rule_of file ≡ Ok x → SlipForm (formula_of file x) → a.slip.count ≤ 4
       formed x p s =
           count_of a (found_in v.trace s.variables s.part) (f.known x p s v.log v.trace v.accepted v.encoded).answer
           (count_in v.trace s.variables s.part s.four)
 
-      on : (q : RuleRead) → rule_of file ≡ q → a.slip.count ≤ 4
-      on (RuleRead.Refused n) p = count_of a (without_slip (Found.Refused n)) (f.rule n p) (omega arith)
-      on (RuleRead.Rule x) p =
+      on : (q : Result Rule Refusal) → rule_of file ≡ q → a.slip.count ≤ 4
+      on (Err n) p = count_of a (without_slip (Found.Refused (number n))) (f.rule n p) (omega arith)
+      on (Ok x) p =
           let k = f.form x p in
           either_bool k.0
           (λ e. formed x p (k.1.yes e))

@@ -19,7 +19,7 @@ use Rattle.trace.proofs.Bounds.{accepted-bounded}
 use Rattle.trace.proofs.Grown.{taken_grows}
 use Rattle.trace.proofs.Taken.{by_answer_lem, line_lines, line_faulty}
 use Rattle.rules.specs.declared.Rule.{Rule}
-use Rattle.rules.specs.declared.RuleRead.TheVariants as RuleRead
+use Rattle.std.specs.Prelude.{Ok}
 use Rattle.rules.specs.Rules.{rule_of, formula_of}
 use Rattle.rules.specs.Formula.{Formula}
 use Rattle.reading.specs.Reading.{by_answer}
@@ -90,7 +90,7 @@ module _ (file log : List ℕ) (w : Walk) (text : List ℕ) (k : Walked file log
   pub walk_lines : w.state.lines.0 ≤ 256
   walk_lines = omega (arith, state_lines, (accepted-bounded (take place log) t k.accepted).lines)
 
-  shown_on : (x : Rule) → rule_of file ≡ RuleRead.Rule x → (f : SlipForm (formula_of file x))
+  shown_on : (x : Rule) → rule_of file ≡ Ok x → (f : SlipForm (formula_of file x))
       → take w.size text ++ slips_from (formula_of file x) f t (lines_of (drop place log)) ≡ slips_from (formula_of file x) f no_trace (lines_of log)
   shown_on x p f =
       ap (λ (b : Bool). take w.size text ++ left_text b (formula_of file x) f t (lines_of (drop place log))) (sym on) ∙ k.shown x p f
@@ -181,7 +181,7 @@ module _ (file log : List ℕ) (w : Walk) (text : List ℕ) (k : Walked file log
         accepted_on : Accepted (take e log) u
         accepted_on = subst (λ (l : List ℕ). Accepted l u) (sym grown) (taken_grows (take place log) t k.accepted line u p)
 
-        on_shown : (x : Rule) → rule_of file ≡ RuleRead.Rule x → (f : SlipForm (formula_of file x))
+        on_shown : (x : Rule) → rule_of file ≡ Ok x → (f : SlipForm (formula_of file x))
             → take v.size text' ++ slips_from (formula_of file x) f u (lines_of (drop e log)) ≡ slips_from (formula_of file x) f no_trace (lines_of log)
         on_shown x r f =
             let h : Formula = formula_of file x in

@@ -96,7 +96,7 @@ module _ (file log : List ℕ) (r : Record) (none : r ≡ record_of no_trace) (a
         record {
           counts = counted n text' (omega (arith, wrote_length _ _ _ _ _ w.writes (omega (arith, w.few)), w.few));
           shows = record {
-            refused = λ d p. said ∙ ap (refused_text 0) (number d (found_of _ (f.rule d p)));
+            refused = λ d p. said ∙ ap (refused_text 0) (number _ (found_of _ (f.rule d p)));
             other_form = λ x p o. said ∙ ap (refused_text 0) (number 26 (found_of _ (f.other_form x p o)));
             slips =
                 λ x p s.
@@ -112,7 +112,7 @@ module _ (file log : List ℕ) (r : Record) (none : r ≡ record_of no_trace) (a
         record {
           counts = counted n text h;
           shows = record {
-            refused = λ d p. absurd (m d (found_of _ (f.rule d p)));
+            refused = λ d p. absurd (m _ (found_of _ (f.rule d p)));
             other_form = λ x p o. absurd (m 26 (found_of _ (f.other_form x p o)));
             slips = s;
           };

@@ -9,7 +9,9 @@ use Rattle.input.specs.declared.Filled.TheVariants.{Bytes, Failed}
 use Rattle.lines.specs.Log.{lines_of}
 use Rattle.trace.specs.Trace.{Trace, no_trace, next, step}
 use Rattle.rules.specs.declared.Rule.{Rule}
-use Rattle.rules.specs.declared.RuleRead.TheVariants as RuleRead
+use Rattle.std.specs.Prelude.{Ok, Err}
+use Rattle.refusals.specs.Refusal.{number}
+use Rattle.refusals.specs.declared.Refusal.{Refusal}
 use Rattle.rules.specs.Rules.{rule_of, formula_of}
 use Rattle.rules.specs.Formula.{Formula}
 use Rattle.logic.specs.declared.Verdict.{Verdict}
@@ -57,10 +59,10 @@ slips_from f s t (l ∷ ls) =
 
 -- s is what is to be printed of a rule file and a log
 pub record Shows (file log s : List ℕ) : Type 0 where
-  pub refused : (c : ℕ) → rule_of file ≡ RuleRead.Refused c → s ≡ refused_text 0 c
+  pub refused : (e : Refusal) → rule_of file ≡ Err e → s ≡ refused_text 0 (number e)
   -- "26 for a rule of another form, after 10"
-  pub other_form : (x : Rule) → rule_of file ≡ RuleRead.Rule x → (SlipForm (formula_of file x) → ⊥) → s ≡ refused_text 0 26
-  pub slips : (x : Rule) → rule_of file ≡ RuleRead.Rule x → (f : SlipForm (formula_of file x))
+  pub other_form : (x : Rule) → rule_of file ≡ Ok x → (SlipForm (formula_of file x) → ⊥) → s ≡ refused_text 0 26
+  pub slips : (x : Rule) → rule_of file ≡ Ok x → (f : SlipForm (formula_of file x))
       → s ≡ slips_from (formula_of file x) f no_trace (lines_of log)
 
 -- it stands in the first n bytes of the buffer

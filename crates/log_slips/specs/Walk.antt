@@ -4,7 +4,7 @@ use Rattle.lines.specs.Log.{lines_of}
 use Rattle.trace.specs.Trace.{Trace, no_trace, next, refused, step, Accepted}
 use Rattle.trace.specs.Record.{record_of}
 use Rattle.rules.specs.declared.Rule.{Rule}
-use Rattle.rules.specs.declared.RuleRead.TheVariants as RuleRead
+use Rattle.std.specs.Prelude.{Ok}
 use Rattle.rules.specs.Rules.{rule_of, formula_of}
 use Rattle.rules.specs.Formula.{Formula}
 use Rattle.text_pieces.specs.Pieces.{refused_text}
@@ -53,7 +53,7 @@ pub record Walked (file log : List ℕ) (w : Walk) (text : List ℕ) : Type 0 wh
   pub within : w.place ≤ length log
   pub few : w.size ≤ line_room * trace.lines + refused_room w.more
   pub room : text_size ≤ length text
-  pub shown : (x : Rule) → rule_of file ≡ RuleRead.Rule x → (s : SlipForm (formula_of file x))
+  pub shown : (x : Rule) → rule_of file ≡ Ok x → (s : SlipForm (formula_of file x))
       → take w.size text ++ left_text w.more (formula_of file x) s trace (lines_of (drop w.place log)) ≡ slips_from (formula_of file x) s no_trace (lines_of log)
 
 -- the next line is refused: its text is written, and no later line is read
@@ -87,7 +87,7 @@ pub record Stops (w v : Walk) : Type 0 where
 -- the text is that of all lines of a log, with a rule that has slips
 abbrev pub ShowsLines : List ℕ → List ℕ → List ℕ → Type 0
 ShowsLines file log text =
-    (x : Rule) → rule_of file ≡ RuleRead.Rule x → (s : SlipForm (formula_of file x)) → text ≡ slips_from (formula_of file x) s no_trace (lines_of log)
+    (x : Rule) → rule_of file ≡ Ok x → (s : SlipForm (formula_of file x)) → text ≡ slips_from (formula_of file x) s no_trace (lines_of log)
 
 -- one line more, if one is left: on goes only what moved on
 pub record Steps (file log : List ℕ) (w v : Walk) (text' : List ℕ) : Type 0 where

@@ -14,7 +14,10 @@ use Rattle.trace.specs.Trace.{Trace, no_run}
 use Rattle.trace.specs.Record.{record_of}
 use Rattle.pairs.specs.declared.Layout.TheVariants.{Square}
 use Rattle.pairs.specs.Layout.{work_size}
-use Rattle.rules.specs.declared.RuleRead.{RuleRead}
+use Rattle.std.specs.Prelude.{Result, Ok, Err}
+use Rattle.refusals.specs.Refusal.{number}
+use Rattle.refusals.specs.declared.Refusal.{Refusal}
+use Rattle.rules.specs.declared.Rule.{Rule}
 use Rattle.rules.specs.Rules.{rule_of}
 use Rattle.rules.proofs.Rules.{rule_taken}
 use Rattle.rules.proofs.Cut.{first_bytes_decide_rule}
@@ -23,7 +26,7 @@ use Rattle.whole_log.specs.declared.Mode.{Mode}
 use Rattle.whole_log.specs.Log.{log_of}
 use Rattle.whole_log.specs.Part.{read_part}
 use Rattle.tallies.specs.Tally.{tally_of}
-use Rattle.whole_log.specs.Repeated.{Result}
+use Rattle.whole_log.specs.Repeated.{Result as Whole}
 use Rattle.single.proofs.LineCall.{with_refused}
 use Rattle.whole_log.proofs.Part.{part_unruled}
 use Rattle.whole_log.proofs.Cut.{first_bytes_decide, part_cut}
@@ -51,7 +54,7 @@ module _ (t u : Trace) (e : record_of t ≡ record_of u) where
   unfolding record_text tally_of
   same_text_lem end v = rw (same_lines, same_runs) refl
 
-one_text : (file log front : List ℕ) (z : Result) → Given file log z → Given file front z → report_text file log ≡ report_text file front
+one_text : (file log front : List ℕ) (z : Whole) → Given file log z → Given file front z → report_text file log ≡ report_text file front
 one_text file log front z g h = sym g.text ∙ (same_text_lem g.trace h.trace (sym g.state ∙ h.state) z.0.ending z.2 ∙ h.text)
 
 -- a buffer for the whole-log call
@@ -68,7 +71,7 @@ log_cut file log =
     (subst (Given file log) (first_bytes_decide Square file log w.0 out.0) g)
 
 -- ── the rule file ──
-refused_report : (file log : List ℕ) (c : ℕ) → rule_of file ≡ RuleRead.Refused c → report_text file log ≡ refused_text 0 c
+refused_report : (file log : List ℕ) (c : Refusal) → rule_of file ≡ Err c → report_text file log ≡ refused_text 0 (number c)
 unfolding report_text
 refused_report file log c e = with_refused (rule_of file) c _ _ e
 
@@ -76,9 +79,9 @@ refused_report file log c e = with_refused (rule_of file) c _ _ e
 long-cut : (file log : List ℕ) → 600 ≤ length file → report_text (take 600 file) log ≡ report_text file log
 long-cut file log h = go (rule_of file) refl
   where
-    go : (q : RuleRead) → rule_of file ≡ q → report_text (take 600 file) log ≡ report_text file log
-    go (RuleRead.Rule x) e = absurd (omega (arith, (rule_taken file x e).size))
-    go (RuleRead.Refused c) e = refused_report (take 600 file) log c (first_bytes_decide_rule file ∙ e) ∙ sym (refused_report file log c e)
+    go : (q : Result Rule Refusal) → rule_of file ≡ q → report_text (take 600 file) log ≡ report_text file log
+    go (Ok x) e = absurd (omega (arith, (rule_taken file x e).size))
+    go (Err c) e = refused_report (take 600 file) log c (first_bytes_decide_rule file ∙ e) ∙ sym (refused_report file log c e)
 
 rule_cut : (file log : List ℕ) → report_text (take 600 file) log ≡ report_text file log
 rule_cut file log =
@@ -97,9 +100,9 @@ rule_part_cut mode file log =
     (λ h. ap (λ (f : List ℕ). read_part mode f log) (take_all 600 file (omega arith)))
     (λ h. go h (rule_of file) refl)
   where
-    go : 600 ≤ length file → (q : RuleRead) → rule_of file ≡ q → read_part mode (take 600 file) log ≡ read_part mode file log
-    go h (RuleRead.Rule x) e = absurd (omega (arith, (rule_taken file x e).size))
-    go h (RuleRead.Refused c) e = part_unruled mode (take 600 file) log c (first_bytes_decide_rule file ∙ e) ∙ sym (part_unruled mode file log c e)
+    go : 600 ≤ length file → (q : Result Rule Refusal) → rule_of file ≡ q → read_part mode (take 600 file) log ≡ read_part mode file log
+    go h (Ok x) e = absurd (omega (arith, (rule_taken file x e).size))
+    go h (Err c) e = part_unruled mode (take 600 file) log c (first_bytes_decide_rule file ∙ e) ∙ sym (part_unruled mode file log c e)
 
 -- the same of what is read in a mode
 pub first_bytes_decide_part_report : (mode : Mode) (file log : List ℕ)

@@ -14,7 +14,9 @@ use Rattle.trace.proofs.Bounds.{sound_none, sound_bounded}
 use Rattle.pairs.specs.declared.Layout.{Layout}
 use Rattle.pairs.specs.Layout.{work_size}
 use Rattle.rules.specs.declared.Rule.{Rule}
-use Rattle.rules.specs.declared.RuleRead.{RuleRead}
+use Rattle.std.specs.Prelude.{Result, Ok, Err}
+use Rattle.refusals.specs.Refusal.{number}
+use Rattle.refusals.specs.declared.Refusal.{Refusal}
 use Rattle.rules.specs.Rules.{rule_of}
 use Rattle.rules.proofs.Rules.{reads_rule}
 use Rattle.reading.specs.declared.LogRead.{LogRead}
@@ -30,7 +32,7 @@ use Rattle.text_pieces.specs.Pieces.{refused_text}
 use Rattle.report.specs.Text.{text_from, report_text}
 use Rattle.text_pieces.specs.Writing.{put, LineLow}
 use Rattle.report.specs.RecordText.{lines_to, fails_to, record_text, OfTrace, PrintsRecord}
-use Rattle.report.specs.Report.{Result, report_of, TextMeans, Reports, ReportsPart}
+use Rattle.report.specs.Report.{Result as Made, report_of, TextMeans, Reports, ReportsPart}
 use Rattle.report.proofs.Printed.{Printed, printed}
 use Rattle.report.proofs.Means.{text_means}
 
@@ -46,7 +48,7 @@ module _ (lay : Layout) (file log w out : List ℕ) (m : ℕ) (size : m ≡ work
   long : work_size lay ≤ length w
   long = omega arith
 
-  given_unruled : (n : ℕ) → rule_of file ≡ RuleRead.Refused n → Given file log (not_read n, w, out)
+  given_unruled : (n : Refusal) → rule_of file ≡ Err n → Given file log (not_read (number n), w, out)
   unfolding record_text lines_to report_text
   given_unruled n e =
       record {
@@ -54,10 +56,10 @@ module _ (lay : Layout) (file log w out : List ℕ) (m : ℕ) (size : m ≡ work
         bounded = sound_bounded no_trace sound_none;
         state = refl;
         line = omega arith;
-        text = append-nil (refused_text 0 n) ∙ sym (with_refused {A = List ℕ} (rule_of file) n _ _ e);
+        text = append-nil (refused_text 0 (number n)) ∙ sym (with_refused {A = List ℕ} (rule_of file) n _ _ e);
       }
 
-  given_ruled : (x : Rule) → rule_of file ≡ RuleRead.Rule x → Given file log (lines_from lay file x no_trace (lines_of log) w out)
+  given_ruled : (x : Rule) → rule_of file ≡ Ok x → Given file log (lines_from lay file x no_trace (lines_of log) w out)
   unfolding lines_to fails_to report_text
   given_ruled x e =
       let p : Printed file x lay w no_trace (lines_of log) (lines_from lay file x no_trace (lines_of log) w out) = printed file x lay w (lines_of log) no_trace out sound_none room in
@@ -69,20 +71,20 @@ module _ (lay : Layout) (file log w out : List ℕ) (m : ℕ) (size : m ≡ work
         text = sym p.text ∙ sym (with_taken {A = List ℕ} (rule_of file) x _ _ e);
       }
 
-  log_unruled : (n : ℕ) → rule_of file ≡ RuleRead.Refused n → log_of lay file log w out ≡ (not_read n, w, out)
+  log_unruled : (n : Refusal) → rule_of file ≡ Err n → log_of lay file log w out ≡ (not_read (number n), w, out)
   unfolding log_of
   log_unruled n e = simp (le-ltb (length w) (work_size lay) long, le-ltb (length out) 256 room) (with_refused (rule_of file) n _ _ e)
 
-  log_ruled : (x : Rule) → rule_of file ≡ RuleRead.Rule x → log_of lay file log w out ≡ lines_from lay file x no_trace (lines_of log) w out
+  log_ruled : (x : Rule) → rule_of file ≡ Ok x → log_of lay file log w out ≡ lines_from lay file x no_trace (lines_of log) w out
   unfolding log_of
   log_ruled x e = simp (le-ltb (length w) (work_size lay) long, le-ltb (length out) 256 room) (with_taken (rule_of file) x _ _ e)
 
   pub given : Given file log (log_of lay file log w out)
   given = by_rule (rule_of file) refl
     where
-      by_rule : (q : RuleRead) → rule_of file ≡ q → Given file log (log_of lay file log w out)
-      by_rule (RuleRead.Rule x) e = subst (Given file log) (sym (log_ruled x e)) (given_ruled x e)
-      by_rule (RuleRead.Refused n) e = subst (Given file log) (sym (log_unruled n e)) (given_unruled n e)
+      by_rule : (q : Result Rule Refusal) → rule_of file ≡ q → Given file log (log_of lay file log w out)
+      by_rule (Ok x) e = subst (Given file log) (sym (log_ruled x e)) (given_ruled x e)
+      by_rule (Err n) e = subst (Given file log) (sym (log_unruled n e)) (given_unruled n e)
 
   module _ (a : LogRead) (v o : List ℕ) (k : ChecksLog lay file log w out a v o) where
     given_here : Given file log (a, v, o)
@@ -113,7 +115,7 @@ module _ (lay : Layout) (file log w out : List ℕ) (m : ℕ) (size : m ≡ work
             short = omega (arith, p.few);
           }
 
-      same_answer : ◌≡◌ {A = Result} (Length n, v, o, text') (report_of lay file log w out text)
+      same_answer : ◌≡◌ {A = Made} (Length n, v, o, text') (report_of lay file log w out text)
       unfolding report_of
       same_answer =
           simp (le-ltb (length w) (work_size lay) long, le-ltb (length out) 256 room, le-ltb (length text) 2048 big)
@@ -134,7 +136,7 @@ module _ (lay : Layout) (file log w out : List ℕ) (m : ℕ) (size : m ≡ work
             unruled = λ m d e r. sym (front m e) ∙ with_refused (rule_of file) d _ _ r;
             meaning = λ m x e r.
                 subst (TextMeans file x log) (sym (with_taken {A = List ℕ} (rule_of file) x (λ c. refused_text 0 c) (λ x. text_from file x no_trace 0 (lines_of log)) r) ∙ front m e)
-                (text_means file x ((reads_rule file (RuleRead.Rule x) (sym r)).taken x refl) log);
+                (text_means file x ((reads_rule file (Ok x) (sym r)).taken x refl) log);
           }
 
 -- ── a short buffer ──
@@ -142,7 +144,7 @@ no_length : {C : Type 0} (n : ℕ) → Refused 20 ≡ Length n → C
 no_length n q = absurd (let z : ◌≡◌ {A = ℕ} 0 1 = cc in omega arith)
 
 module _ (lay : Layout) (file log w out text : List ℕ) where
-  report_refused : ◌≡◌ {A = Result} (Refused 20, w, out, text) (report_of lay file log w out text) → Reports lay file log w out text (Refused 20) w out text
+  report_refused : ◌≡◌ {A = Made} (Refused 20, w, out, text) (report_of lay file log w out text) → Reports lay file log w out text (Refused 20) w out text
   report_refused e =
       record {
         answer = e;

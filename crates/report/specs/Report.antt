@@ -6,7 +6,9 @@ use Rattle.trace.specs.Trace.{Trace, next, refused, no_trace, steps, Accepted, s
 use Rattle.pairs.specs.declared.Layout.{Layout}
 use Rattle.pairs.specs.Layout.{work_size}
 use Rattle.rules.specs.declared.Rule.{Rule}
-use Rattle.rules.specs.declared.RuleRead.TheVariants as RuleRead
+use Rattle.std.specs.Prelude.{Ok, Err}
+use Rattle.refusals.specs.Refusal.{number}
+use Rattle.refusals.specs.declared.Refusal.{Refusal}
 use Rattle.rules.specs.Rules.{rule_of, formula_of}
 use Rattle.logic.specs.declared.Verdict.{Verdict}
 use Rattle.logic.specs.Verdict.{Says}
@@ -59,10 +61,10 @@ pub record Reports (lay : Layout) (file log w out text : List ℕ) (a : Reported
   -- no report is longer than the shortest buffer that is taken
   pub short : (n : ℕ) → a ≡ Length n → n ≤ report_size
   -- "A refused rule prints `0 R` and the number joined, and nothing else."
-  pub unruled : (n c : ℕ) → a ≡ Length n → rule_of file ≡ RuleRead.Refused c → take n text' ≡ refused_text 0 c
-  pub meaning : (n : ℕ) (x : Rule) → a ≡ Length n → rule_of file ≡ RuleRead.Rule x → TextMeans file x log (take n text')
+  pub unruled : (n : ℕ) (e : Refusal) → a ≡ Length n → rule_of file ≡ Err e → take n text' ≡ refused_text 0 (number e)
+  pub meaning : (n : ℕ) (x : Rule) → a ≡ Length n → rule_of file ≡ Ok x → TextMeans file x log (take n text')
 
 -- the contract of the call, which names a mode: the report is that of the part that is read
 pub record ReportsPart (lay : Layout) (mode : Mode) (file log w out text : List ℕ) (a : Reported) (w' out' text' : List ℕ) : Type 0 where
   pub reports : Reports lay file (read_part mode file log) w out text a w' out' text'
-  pub part : (x : Rule) → rule_of file ≡ RuleRead.Rule x → PartOf mode file x log (read_part mode file log)
+  pub part : (x : Rule) → rule_of file ≡ Ok x → PartOf mode file x log (read_part mode file log)

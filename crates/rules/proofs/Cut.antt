@@ -19,7 +19,6 @@ use Rattle.rules.specs.Labels.{label_start, label_from, label_bytes, listed, rea
 use Rattle.rules.specs.Table.{node_at, fields_ok, read_nodes}
 use Rattle.rules.specs.Rules.{rule_of}
 use Rattle.rules.specs.declared.Node.{Node}
-use Rattle.std.specs.Prelude.{Err}
 use Rattle.refusals.specs.declared.Refusal.{Refusal}
 use Rattle.std.specs.Prelude.{Result}
 use Rattle.rules.specs.declared.Rule.{Rule}

@@ -1,5 +1,5 @@
 -- The labels of a rule file: "each label as a length byte and its bytes, none listed twice". What is looked up is their capitals.
-use Rattle.std.specs.Prelude.{ℕ, zero, suc, ◌+◌, ◌≤◌, ◌<◌, ◌≡◌, Bool, true, false, not, ◌&&◌, ◌||◌, List, length, take, drop, Result, Ok, Err}
+use Rattle.std.specs.Prelude.{ℕ, zero, suc, ◌+◌, ◌≤◌, ◌<◌, ◌≡◌, Bool, true, false, not, ◌&&◌, ◌||◌, List, length, take, drop, Result, Ok}
 use Rattle.lists.specs.Lists.{same?}
 use Rattle.labels.specs.Label.{capitals, max_label_bytes, label_length?, label_form?}
 use Rattle.rules.specs.Parts.{byte, part, and_then, labels_at}

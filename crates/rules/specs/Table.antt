@@ -1,5 +1,5 @@
 -- The table of nodes, three bytes a node, and the formula that a node stands for. The table starts at place p of the file.
-use Rattle.std.specs.Prelude.{ℕ, zero, suc, ◌+◌, ◌*◌, ◌≤◌, ◌<◌, ◌≡◌, Bool, true, false, ◌&&◌, cond, List, eqb, leb, ltb, length, Result, Ok, Err}
+use Rattle.std.specs.Prelude.{ℕ, zero, suc, ◌+◌, ◌*◌, ◌≤◌, ◌<◌, ◌≡◌, Bool, true, false, ◌&&◌, cond, List, eqb, leb, ltb, length, Result, Ok}
 use Rattle.rules.specs.Limits.{last_kind, variables}
 use Rattle.rules.specs.Formula.{Pairing, before, overlaps, includes, same, Formula, both, neg, exists, has, pair}
 use Rattle.rules.specs.Parts.{byte, label_count, part, and_then}

@@ -4,7 +4,7 @@
 // A case is a kind and a text (`test_cases`): `n` writes a name, `+` gives bytes of a file, `f` gives its last bytes and has it read.
 #![tactic(auto)]
 
-use rules::{Rule, RuleRead};
+use rules::Rule;
 use std::io::Stdout;
 
 fn show_rule(out: Stdout, x: Rule) {
@@ -19,8 +19,8 @@ fn show_rule(out: Stdout, x: Rule) {
 fn show(out: Stdout, file: &[u8]) {
     let r = rule_file::read_rule(file);
     match r {
-        RuleRead::Rule(x) => show_rule(out, x),
-        RuleRead::Refused(n) => test_text::write_refusal(out, n),
+        Ok(x) => show_rule(out, x),
+        Err(e) => test_text::write_refusal(out, u8::from(e)),
     }
     test_text::write(out, b"\n");
 }

@@ -10,7 +10,8 @@ use Rattle.pairs.specs.Layout.{work_size}
 use Rattle.pairs.specs.Pairs.{work_of}
 use Rattle.relations.specs.Runs.{relate_in, Answers}
 use Rattle.rules.specs.declared.Rule.{Rule}
-use Rattle.rules.specs.declared.RuleRead.TheVariants as RuleRead
+use Rattle.std.specs.Prelude.{Ok}
+use Rattle.refusals.specs.Refusal.{number}
 use Rattle.rules.specs.Rules.{rule_of}
 use Rattle.logic.specs.declared.Verdict.{Verdict}
 use Rattle.single.specs.declared.Checked.{Checked}
@@ -49,7 +50,7 @@ pub record ChecksBytes (lay : Layout) (file b w line : List ℕ) (n : ℕ) (b' w
   pub checked : Checked
   pub checks : ChecksLine lay file (record_from b) w line checked w'
   pub answer : ◌≡◌ {A = ℕ × List ℕ} (n, b') (line_numbered checked b)
-  pub goes_on : (x : Rule) → rule_of file ≡ RuleRead.Rule x → (log : List ℕ) (t : Trace) → Left lay log t (record_from b) w
+  pub goes_on : (x : Rule) → rule_of file ≡ Ok x → (log : List ℕ) (t : Trace) → Left lay log t (record_from b) w
       → (v : Verdict) → checked.outcome ≡ judged v → (u : Trace) × Left lay (log ++ line) u (record_from b') w'
 
 -- the answer and both buffers, for every input: 20 comes first
@@ -68,7 +69,7 @@ pub record ChecksTalliedBytes (lay : Layout) (file b s w line : List ℕ) (n : �
   pub checked : Tallied
   pub checks : ChecksTallied lay file (record_from b) (tally_from s) w line checked w'
   pub answer : ◌≡◌ {A = ℕ × List ℕ × List ℕ} (n, b', s') (tallied_numbered checked b s)
-  pub goes_on : (x : Rule) → rule_of file ≡ RuleRead.Rule x → (log : List ℕ) (t : Trace) → Left lay log t (record_from b) w
+  pub goes_on : (x : Rule) → rule_of file ≡ Ok x → (log : List ℕ) (t : Trace) → Left lay log t (record_from b) w
       → counts? t (tally_from s) ≡ true → (v : Verdict) → checked.outcome ≡ judged v → (u : Trace) × Left lay (log ++ line) u (record_from b') w'
   pub counts_on : (v : Verdict) → checked.outcome ≡ judged v → tally_from s' ≡ checked.tally
 
@@ -96,9 +97,9 @@ log_in_bytes b z = ((log_kept z.0 b).0, (log_kept z.0 b).1, z.1, z.2)
 pub record KeepsLog (lay : Layout) (file log b w out : List ℕ) (n : ℕ) (b' w' out' : List ℕ) : Type 0 where
   pub answer : ◌≡◌ {A = ℕ × List ℕ × List ℕ × List ℕ} (n, b', w', out') (log_in_bytes b (log_of lay file log w out))
   pub meaning : ChecksLog lay file log w out (log_of lay file log w out).0 w' out'
-  pub whole : (x : Rule) → rule_of file ≡ RuleRead.Rule x → work_size lay ≤ length w → max_lines ≤ length out
+  pub whole : (x : Rule) → rule_of file ≡ Ok x → work_size lay ≤ length w → max_lines ≤ length out
       → (log_of lay file log w out).0.ending ≡ Ending.Read → (t : Trace) × Left lay log t (record_from b') w'
-  pub stops : (x : Rule) → rule_of file ≡ RuleRead.Rule x → work_size lay ≤ length w → max_lines ≤ length out → (c l : ℕ)
+  pub stops : (x : Rule) → rule_of file ≡ Ok x → work_size lay ≤ length w → max_lines ≤ length out → (c l : ℕ)
       → (log_of lay file log w out).0.ending ≡ Ending.Refused c l
       → (s : LogStopped lay log w c l (log_of lay file log w out).0 w') × Left lay s.first.before s.first.trace (record_from b') w'
 

@@ -6,7 +6,7 @@
 ghost use Rattle.std.specs.Prelude.{◌≤◌};
 ghost use Rattle.rules.specs.Rules.{Taken};
 
-use rules::{MAX_NODES, Rule, RuleRead};
+use rules::{MAX_NODES, Rule};
 use std::io::Stdout;
 
 // Writes the line of node n.
@@ -42,8 +42,8 @@ fn show(out: Stdout, name: &[u8], file: &[u8]) {
     test_text::write(out, name);
     let r = rule_file::read_rule(file);
     match r {
-        RuleRead::Rule(x) => show_rule(out, file, x),
-        RuleRead::Refused(code) => test_text::write_refusal(out, code),
+        Ok(x) => show_rule(out, file, x),
+        Err(e) => test_text::write_refusal(out, u8::from(e)),
     }
 }
 

@@ -13,7 +13,9 @@ use Rattle.trace.specs.declared.Record.{Record}
 use Rattle.trace.specs.Trace.{Trace}
 use Rattle.trace.specs.declared.RunNo.{RunNo}
 use Rattle.rules.specs.declared.Rule.{Rule}
-use Rattle.rules.specs.declared.RuleRead.{RuleRead}
+use Rattle.std.specs.Prelude.{Result, Ok, Err}
+use Rattle.refusals.specs.Refusal.{number}
+use Rattle.refusals.specs.declared.Refusal.{Refusal}
 use Rattle.rules.specs.Formula.{Formula}
 use Rattle.rules.specs.Rules.{rule_of, formula_of}
 use Rattle.rules.proofs.Rules.{rule_refused}
@@ -49,7 +51,7 @@ by_answer_lem : {C : Type 0} (file : List ℕ) (r : Record) (a : Finding) → Fi
     → (a ≡ without_slip Found.Nothing → C) → ((x : Slip) → a ≡ with_slip x → 1 ≤ x.count → x.count ≤ 4 → C) → C
 by_answer_lem {C} file r a h refused none slip = go (rule_of file) refl
   where
-    known : (x : Rule) → rule_of file ≡ RuleRead.Rule x → SlipForm (formula_of file x) → C
+    known : (x : Rule) → rule_of file ≡ Ok x → SlipForm (formula_of file x) → C
     known x e s =
         let d = h.decided x e s in
         either_bool d.0
@@ -59,9 +61,9 @@ by_answer_lem {C} file r a h refused none slip = go (rule_of file) refl
         found_either v.trace s.variables s.part s.one s.four (λ z q. slip z (w.answer ∙ q)) (λ q. none (w.answer ∙ q)))
         (λ n. refused 21 (omega arith) (h.no_record x e s (d.1.no n)))
 
-    go : (o : RuleRead) → rule_of file ≡ o → C
-    go (RuleRead.Refused n) e = refused n (rule_refused file n e).0 (h.rule n e)
-    go (RuleRead.Rule x) e =
+    go : (o : Result Rule Refusal) → rule_of file ≡ o → C
+    go (Err n) e = refused (number n) (rule_refused file n e).0 (h.rule n e)
+    go (Ok x) e =
         let d = h.form x e in
         either_bool d.0 (λ y. known x e (d.1.yes y)) (λ n. refused 26 (omega arith) (h.other_form x e (d.1.no n)))
 

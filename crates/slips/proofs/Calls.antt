@@ -1,6 +1,6 @@
 -- The order of refusals that both calls keep: the rule's, the form's, the record's; then what is said of the record's logs.
 use Prim.Native.Nat.{ℕ}
-use mathlib.Core.Path.{◌≡◌, refl, sym, subst, ◌∙◌}
+use mathlib.Core.Path.{◌≡◌, refl, sym, subst, ap, ◌∙◌}
 use mathlib.Core.Bool.{Bool, true, false}
 use mathlib.Core.List.{List}
 use native.Mathlib.Omega.{arith}
@@ -12,9 +12,12 @@ use Rattle.trace.specs.declared.Record.{Record}
 use Rattle.trace.specs.Trace.{Trace, Accepted}
 use Rattle.trace.specs.Record.{record_of, Valid}
 use Rattle.rules.specs.declared.Rule.{Rule}
-use Rattle.rules.specs.declared.RuleRead.{RuleRead}
+use Rattle.std.specs.Prelude.{Result, Ok, Err}
+use Rattle.refusals.specs.Refusal.{number}
+use Rattle.refusals.specs.declared.Refusal.{Refusal}
 use Rattle.rules.specs.Formula.{Formula}
 use Rattle.rules.specs.Rules.{rule_of, formula_of, ReadsRule}
+use Rattle.rules.proofs.Parts.{not_ok, err_inj}
 use Rattle.slip_form.specs.Form.{SlipForm}
 use Rattle.slip_form.specs.Slips.{run_no}
 use Rattle.slip_form.specs.Chain.{slip_form?, ChainAt, TopOf}
@@ -28,18 +31,18 @@ pub no_slip : (a : Found) → ◌≡◌ {A = Finding} (record { found = a; slip 
 unfolding pad
 no_slip a = refl
 
-one_rule : (o s : RuleRead) (x y : Rule) → o ≡ s → o ≡ RuleRead.Rule x → s ≡ RuleRead.Rule y → y ≡ x
+one_rule : (o s : Result Rule Refusal) (x y : Rule) → o ≡ s → o ≡ Ok x → s ≡ Ok y → y ≡ x
 one_rule o s x y p q r = cc
 
-no_rule : {C : Type 0} (o s : RuleRead) (x : Rule) (n : ℕ) → o ≡ s → o ≡ RuleRead.Rule x → s ≡ RuleRead.Refused n → C
-no_rule o s x n p q r = absurd (let z : ◌≡◌ {A = ℕ} 0 1 = cc in omega arith)
+no_rule : {C : Type 0} (o s : Result Rule Refusal) (x : Rule) (n : Refusal) → o ≡ s → o ≡ Ok x → s ≡ Err n → C
+no_rule o s x n p q r = not_ok n x (sym r ∙ sym p ∙ q)
 
-one_number : (o s : RuleRead) (m n : ℕ) → o ≡ s → o ≡ RuleRead.Refused m → s ≡ RuleRead.Refused n → m ≡ n
-one_number o s m n p q r = cc
+one_number : (o s : Result Rule Refusal) (m n : Refusal) → o ≡ s → o ≡ Err m → s ≡ Err n → number m ≡ number n
+one_number o s m n p q r = ap number (err_inj m n (sym q ∙ p ∙ r))
 
 module _ (file : List ℕ) (r : Record) (refuses : ℕ → Type 0) (says : (t : Trace) (f : Formula) → SlipForm f → Type 0)
-    (o : RuleRead) (reads : ReadsRule file o) where
-  pub rule_refused : (n : ℕ) → o ≡ RuleRead.Refused n → refuses n → SlipCall file r refuses says
+    (o : Result Rule Refusal) (reads : ReadsRule file o) where
+  pub rule_refused : (n : Refusal) → o ≡ Err n → refuses (number n) → SlipCall file r refuses says
   rule_refused n e h =
       record {
         rule = λ m q. subst refuses (one_number o (rule_of file) n m reads.answer e q) h;
@@ -50,14 +53,14 @@ module _ (file : List ℕ) (r : Record) (refuses : ℕ → Type 0) (says : (t : 
         known = λ x q. no_rule (rule_of file) o x n (sym reads.answer) q e;
       }
 
-  module _ (x : Rule) (e : o ≡ RuleRead.Rule x) where
-    same_rule : (y : Rule) → rule_of file ≡ RuleRead.Rule y → y ≡ x
+  module _ (x : Rule) (e : o ≡ Ok x) where
+    same_rule : (y : Rule) → rule_of file ≡ Ok y → y ≡ x
     same_rule y q = one_rule o (rule_of file) x y reads.answer e q
 
-    form_of : (y : Rule) → rule_of file ≡ RuleRead.Rule y → (k : Bool) × Tells k (SlipForm (formula_of file y))
+    form_of : (y : Rule) → rule_of file ≡ Ok y → (k : Bool) × Tells k (SlipForm (formula_of file y))
     form_of y q = (slip_form? (formula_of file y), form_tells (formula_of file y) (reads.taken y (reads.answer ∙ q)).depth)
 
-    of_rule : (y : Rule) → rule_of file ≡ RuleRead.Rule y → SlipForm (formula_of file y) → SlipForm (formula_of file x)
+    of_rule : (y : Rule) → rule_of file ≡ Ok y → SlipForm (formula_of file y) → SlipForm (formula_of file x)
     of_rule y q = subst (λ (z : Rule). SlipForm (formula_of file z)) (same_rule y q)
 
     pub form_refused : (t : Option ℕ) → TopOf file x t → t ≡ None → refuses 26 → SlipCall file r refuses says
@@ -72,7 +75,7 @@ module _ (file : List ℕ) (r : Record) (refuses : ℕ → Type 0) (says : (t : 
         }
 
     module _ (top : ℕ) (at : ChainAt file x top) (b : Bool) (valid : Tells b (Valid r)) where
-      here : (y : Rule) → rule_of file ≡ RuleRead.Rule y → SlipForm (formula_of file y)
+      here : (y : Rule) → rule_of file ≡ Ok y → SlipForm (formula_of file y)
       here y q = subst (λ (z : Rule). SlipForm (formula_of file z)) (sym (same_rule y q)) at.form
 
       pub record_refused : b ≡ false → refuses 21 → SlipCall file r refuses says

@@ -7,7 +7,9 @@ use Rattle.trace.specs.Trace.{Trace, Accepted}
 use Rattle.trace.specs.Record.{record_of, Valid}
 use Rattle.relations.specs.Runs.{finished?}
 use Rattle.rules.specs.declared.Rule.{Rule}
-use Rattle.rules.specs.declared.RuleRead.TheVariants as RuleRead
+use Rattle.std.specs.Prelude.{Ok, Err}
+use Rattle.refusals.specs.Refusal.{number}
+use Rattle.refusals.specs.declared.Refusal.{Refusal}
 use Rattle.rules.specs.Formula.{Formula}
 use Rattle.rules.specs.Rules.{rule_of, formula_of}
 use Rattle.logic.specs.Satisfies.{Binding, bind, Satisfies}
@@ -75,13 +77,13 @@ pub record ReadsIn (t : Trace) (f : Formula) (s : SlipForm f) (ks : List ℕ) (a
 -- log that leaves the record. One of these is the case for every rule file and record.
 pub record SlipCall (file : List ℕ) (r : Record) (refuses : ℕ → Type 0)
     (says : (t : Trace) (f : Formula) → SlipForm f → Type 0) : Type 0 where
-  pub rule : (n : ℕ) → rule_of file ≡ RuleRead.Refused n → refuses n
-  pub form : (x : Rule) → rule_of file ≡ RuleRead.Rule x → (k : Bool) × Tells k (SlipForm (formula_of file x))
-  pub other_form : (x : Rule) → rule_of file ≡ RuleRead.Rule x → (SlipForm (formula_of file x) → ⊥) → refuses 26
-  pub decided : (x : Rule) → rule_of file ≡ RuleRead.Rule x → SlipForm (formula_of file x)
+  pub rule : (e : Refusal) → rule_of file ≡ Err e → refuses (number e)
+  pub form : (x : Rule) → rule_of file ≡ Ok x → (k : Bool) × Tells k (SlipForm (formula_of file x))
+  pub other_form : (x : Rule) → rule_of file ≡ Ok x → (SlipForm (formula_of file x) → ⊥) → refuses 26
+  pub decided : (x : Rule) → rule_of file ≡ Ok x → SlipForm (formula_of file x)
       → (k : Bool) × Tells k (Valid r)
-  pub no_record : (x : Rule) → rule_of file ≡ RuleRead.Rule x → SlipForm (formula_of file x) → (Valid r → ⊥) → refuses 21
-  pub known : (x : Rule) → rule_of file ≡ RuleRead.Rule x → (s : SlipForm (formula_of file x))
+  pub no_record : (x : Rule) → rule_of file ≡ Ok x → SlipForm (formula_of file x) → (Valid r → ⊥) → refuses 21
+  pub known : (x : Rule) → rule_of file ≡ Ok x → (s : SlipForm (formula_of file x))
       → (log : List ℕ) (t : Trace) → Accepted log t → r ≡ record_of t → says t (formula_of file x) s
 
 abbrev pub FindsFirst : List ℕ → Record → Finding → Type 0

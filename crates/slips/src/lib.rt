@@ -14,7 +14,7 @@ ghost use Rattle.slips.specs.Parts.{found_by, PreparedFor, FindsOf, ReadsOf};
 use lists::MAX_RUNS;
 use row_table::table::TABLE_WORDS;
 use rule_file::MAX_NESTED;
-use rules::{MAX_NODES, Rule, RuleRead};
+use rules::{MAX_NODES, Rule};
 use slip_form::Slip;
 use trace::{Record, RunNo};
 
@@ -169,8 +169,8 @@ pub fn first_slip(file: &[u8], r: Record) -> Finding
 {
     let read = rule_file::read_rule(file);
     match read {
-        RuleRead::Refused(n) => return without_slip(Found::Refused(n)),
-        RuleRead::Rule(rule) => {
+        Err(e) => return without_slip(Found::Refused(u8::from(e))),
+        Ok(rule) => {
             let t = slip_form::chain_top(file, rule);
             match t {
                 None => return without_slip(Found::Refused(26)),
@@ -191,8 +191,8 @@ pub fn passes(file: &[u8], r: Record, slip: Slip) -> Passing
 {
     let read = rule_file::read_rule(file);
     match read {
-        RuleRead::Refused(n) => return Passing::Refused(n),
-        RuleRead::Rule(rule) => {
+        Err(e) => return Passing::Refused(u8::from(e)),
+        Ok(rule) => {
             let t = slip_form::chain_top(file, rule);
             match t {
                 None => return Passing::Refused(26),

@@ -5,7 +5,7 @@ ghost use Rattle.timeline.specs.AllLines.{FitsRuns};
 
 use super::each;
 use logic::Verdict;
-use rules::{Rule, RuleRead};
+use rules::Rule;
 use std::io::Stdout;
 use timeline::Timeline;
 use trace::Record;
@@ -62,10 +62,10 @@ fn show_rule(out: Stdout, kind: u8, file: &[u8], x: Rule, log: &[u8])
 pub fn show(out: Stdout, kind: u8, file: &[u8], log: &[u8]) {
     let r = rule_file::read_rule(file);
     match r {
-        RuleRead::Rule(x) => show_rule(out, kind, file, x, log),
-        RuleRead::Refused(code) => {
+        Ok(x) => show_rule(out, kind, file, x, log),
+        Err(e) => {
             test_text::write(out, b"0 ");
-            test_text::write_refusal(out, code);
+            test_text::write_refusal(out, u8::from(e));
         }
     }
     test_text::write(out, b"\n");

@@ -25,7 +25,7 @@ use Rattle.pairs.specs.declared.Layout.TheVariants.{Half}
 use Rattle.pairs.specs.Layout.{work_size}
 use Rattle.pairs.specs.Pairs.{work_of}
 use Rattle.rules.specs.declared.Rule.{Rule}
-use Rattle.rules.specs.declared.RuleRead.TheVariants as RuleRead
+use Rattle.std.specs.Prelude.{Ok}
 use Rattle.rules.specs.Rules.{rule_of, formula_of}
 use Rattle.logic.specs.declared.Verdict.{Verdict}
 use Rattle.logic.specs.Verdict.{verdict_of}
@@ -59,7 +59,7 @@ not_on e = let z : ◌≡◌ {A = ℕ} 0 1 = cc in omega arith
 
 module _ (file : List ℕ) (r : Record) (y : Tally) (w line : List ℕ) (a : Tallied) (w' : List ℕ) (ck : ChecksTallied Half file r y w line a w') (long : work_size Half ≤ length w) where
   -- of a rule and a log that leave what is handed in
-  module _ (x : Rule) (taken : rule_of file ≡ RuleRead.Rule x) (log : List ℕ) (t : Trace) (l : Left Half log t r w) (e : y ≡ tally_after file x log t) where
+  module _ (x : Rule) (taken : rule_of file ≡ Ok x) (log : List ℕ) (t : Trace) (l : Left Half log t r w) (e : y ≡ tally_after file x log t) where
     verdict : Trace → Verdict
     verdict u = verdict_of u (formula_of file x)
 

@@ -19,7 +19,8 @@ use Rattle.pairs.specs.Layout.{work_size}
 use Rattle.pairs.specs.Pairs.{work_of}
 use Rattle.pairs.specs.Start.{start_of}
 use Rattle.rules.specs.declared.Rule.{Rule}
-use Rattle.rules.specs.declared.RuleRead.{RuleRead}
+use Rattle.std.specs.Prelude.{Result, Ok}
+use Rattle.refusals.specs.declared.Refusal.{Refusal}
 use Rattle.rules.specs.Rules.{rule_of, ReadsRule}
 use Rattle.pairs.proofs.Work.{work_over, work_long}
 use Rattle.single.specs.declared.Outcome.{Outcome}
@@ -42,13 +43,13 @@ use Rattle.watch.specs.Watch.{way_of, Watching, AnswersLine, AnswersEnd, Answers
 use Rattle.watch.proofs.Texts.{stands, stands-within}
 
 -- ── the start ──
-pub rule_read : (file : List ℕ) (q : RuleRead) (x : Rule) → ReadsRule file q → q ≡ RuleRead.Rule x → rule_of file ≡ RuleRead.Rule x
+pub rule_read : (file : List ℕ) (q : Result Rule Refusal) (x : Rule) → ReadsRule file q → q ≡ Ok x → rule_of file ≡ Ok x
 rule_read file q x f e = sym f.answer ∙ e
 
 abbrev zeros : Tally
 zeros = record { lines = 0; begun = 0; finished = 0; running = 0; failing = 0 }
 
-pub starts : (file w : List ℕ) (x : Rule) (a : Started) (w' : List ℕ) → rule_of file ≡ RuleRead.Rule x → work_size Half ≤ length w → ◌≡◌ {A = Started × List ℕ} (a, w') (start_of Half w)
+pub starts : (file w : List ℕ) (x : Rule) (a : Started) (w' : List ℕ) → rule_of file ≡ Ok x → work_size Half ≤ length w → ◌≡◌ {A = Started × List ℕ} (a, w') (start_of Half w)
     → Watching file a.state zeros w'
 unfolding start_of
 starts file w x a w' e long p =
@@ -135,4 +136,4 @@ module _ (text text' : List ℕ) (n : ℕ) where
   rule_answers c p =
       let s : take n text' ≡ refused_text 0 c = stands _ text text' n p.writes in
       let h : n ≤ length text' = stands-within _ text text' n p.writes in
-      record { count = h; counted = sym (length-take-le n text' h); printed = s; report = λ file log e. s ∙ sym (with_refused (rule_of file) c _ _ e) }
+      record { count = h; counted = sym (length-take-le n text' h); printed = s; report = λ file log e. s ∙ sym (with_refused (rule_of file) e.0 _ _ e.1.0 ∙ ap (refused_text 0) e.1.1) }

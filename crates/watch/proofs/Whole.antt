@@ -17,13 +17,13 @@ use Rattle.lines.specs.Log.{lines_of}
 use Rattle.lines.proofs.Log.{refused_without_lf}
 use Rattle.trace.specs.Trace.{no_trace}
 use Rattle.rules.specs.declared.Rule.{Rule}
-use Rattle.rules.specs.declared.RuleRead.TheVariants as RuleRead
+use Rattle.std.specs.Prelude.{Ok}
 use Rattle.rules.specs.Rules.{rule_of}
 use Rattle.single.proofs.LineCall.{with_taken}
 use Rattle.report.specs.Text.{text_from, report_text}
 use Rattle.watch.specs.Watch.{OneLine, FirstBytes}
 
-pub report-starts : (file : List ℕ) (x : Rule) (input : List ℕ) → rule_of file ≡ RuleRead.Rule x → report_text file input ≡ text_from file x no_trace 0 (lines_of input)
+pub report-starts : (file : List ℕ) (x : Rule) (input : List ℕ) → rule_of file ≡ Ok x → report_text file input ≡ text_from file x no_trace 0 (lines_of input)
 unfolding report_text
 report-starts file x input e = with_taken (rule_of file) x _ _ e
 

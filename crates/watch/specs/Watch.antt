@@ -10,7 +10,8 @@ use Rattle.trace.specs.Trace.{Trace, next, refused, step}
 use Rattle.pairs.specs.declared.Layout.TheVariants.{Half}
 use Rattle.pairs.specs.Layout.{work_size}
 use Rattle.rules.specs.declared.Rule.{Rule}
-use Rattle.rules.specs.declared.RuleRead.TheVariants as RuleRead
+use Rattle.std.specs.Prelude.{Ok}
+use Rattle.refusals.specs.Refusal.{RefusedWith}
 use Rattle.rules.specs.Rules.{rule_of, formula_of}
 use Rattle.logic.specs.declared.Verdict.TheVariants as Verdict
 use Rattle.logic.specs.Verdict.{verdict_of}
@@ -40,7 +41,7 @@ way_of (Refused c) = End
 -- the lines read so far leave the record, the work area and the tally; the rule is taken
 pub record Watching (file : List ℕ) (r : Record) (y : Tally) (w : List ℕ) : Type 0 where
   pub rule : Rule
-  pub taken : rule_of file ≡ RuleRead.Rule rule
+  pub taken : rule_of file ≡ Ok rule
   pub long : work_size Half ≤ length w
   pub log : List ℕ
   pub trace : Trace
@@ -93,7 +94,7 @@ pub record AnswersLine (file : List ℕ) (r : Record) (y : Tally) (w line : List
   pub printed : take a.size text ≡ outcome_text a.tally.lines a.outcome
   pub watching : Watching file a.state a.tally w'
   pub more : way_of a.outcome ≡ On → a.tally.lines ≡ y.lines + 1
-  pub meaning : (x : Rule) → rule_of file ≡ RuleRead.Rule x
+  pub meaning : (x : Rule) → rule_of file ≡ Ok x
       → (log : List ℕ) (t : Trace) → Left Half log t r w → y ≡ tally_after file x log t
       → ((u : Trace) → step (next t) line ≡ next u → GoesOn file x log t y line a w' (take a.size text) u)
       × ((c : ℕ) → step (next t) line ≡ refused c → Ends file x t y line a (take a.size text) c)
@@ -110,7 +111,7 @@ pub record AnswersRule (c : ℕ) (text : List ℕ) (n : ℕ) : Type 0 where
   pub count : n ≤ length text
   pub counted : n ≡ length (take n text)
   pub printed : take n text ≡ refused_text 0 c
-  pub report : (file log : List ℕ) → rule_of file ≡ RuleRead.Refused c → take n text ≡ report_text file log
+  pub report : (file log : List ℕ) → RefusedWith c (rule_of file) → take n text ≡ report_text file log
 
 -- the way after an outcome, or stop
 abbrev pub Follows : Way → Outcome → Type 0

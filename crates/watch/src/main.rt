@@ -9,7 +9,6 @@
 ghost use Rattle.std.specs.Prelude.{◌≤◌, ◌≡◌, length};
 ghost use Rattle.pairs.specs.declared.Layout.TheVariants.{Half};
 ghost use Rattle.pairs.specs.Layout.{work_size};
-ghost use Rattle.rules.specs.declared.RuleRead.TheVariants as RuleRead;
 ghost use Rattle.rules.specs.Rules.{rule_of};
 ghost use Rattle.text_pieces.specs.Writing.{WritesFew};
 ghost use Rattle.report.specs.RecordText.{Printable};
@@ -17,7 +16,7 @@ ghost use Rattle.watch.specs.Watch.{LineRead, outcome_text, way_of, Watching, An
 
 use input::{Filled, Streams};
 use pairs::{HALF_BYTES, Layout};
-use rules::{Rule, RuleRead};
+use rules::Rule;
 use single::Outcome;
 use std::io;
 use std::io::Stdin;
@@ -289,7 +288,7 @@ fn refuse(streams: Streams, c: u8) {
 
 // No line is read yet.
 fn start(file: &[u8], rule: Rule, work: &mut [u8]) -> Watch
-    requires { (rule_of file.now ≡ RuleRead.Rule rule) × (work_size Half ≤ length work.old) }
+    requires { (rule_of file.now ≡ Ok rule) × (work_size Half ≤ length work.old) }
     ensures { Watching file.now result.state result.tally work.new }
 {
     let a = pairs::start_record(Layout::Half, work);
@@ -311,11 +310,11 @@ fn start(file: &[u8], rule: Rule, work: &mut [u8]) -> Watch
 fn watch_log(streams: Streams, file: &[u8]) {
     let x = rule_file::read_rule(file);
     match x {
-        RuleRead::Refused(c) => {
-            refuse(streams, c);
+        Err(e) => {
+            refuse(streams, u8::from(e));
             return;
         }
-        RuleRead::Rule(rule) => {
+        Ok(rule) => {
             let mut work = [0u8; HALF_BYTES];
             let s = start(file, rule, &mut work);
             let last = watch_lines(streams, file, s, &mut work);

@@ -23,7 +23,8 @@ use Rattle.pairs.specs.declared.Layout.{Layout}
 use Rattle.pairs.specs.Layout.{work_size}
 use Rattle.pairs.specs.Pairs.{work_of}
 use Rattle.rules.specs.declared.Rule.{Rule}
-use Rattle.rules.specs.declared.RuleRead.{RuleRead}
+use Rattle.std.specs.Prelude.{Result, Ok, Err}
+use Rattle.refusals.specs.declared.Refusal.{Refusal}
 use Rattle.rules.specs.Rules.{rule_of, formula_of}
 use Rattle.logic.specs.Verdict.{verdict_byte, verdict_of}
 use Rattle.reading.specs.declared.Ending.TheVariants.{Refused}
@@ -33,7 +34,7 @@ use Rattle.whole_log.specs.declared.Mode.{Mode}
 use Rattle.whole_log.specs.declared.Mode.TheVariants.{FirstFailure, Full}
 use Rattle.whole_log.specs.Log.{not_read, lines_from, log_of}
 use Rattle.whole_log.specs.Part.{read_part, EndsFailing, ToFailure, shortest, all}
-use Rattle.whole_log.specs.Repeated.{Result}
+use Rattle.whole_log.specs.Repeated.{Result as Whole}
 use Rattle.reading.specs.Turns.{line_between}
 use Rattle.trace.proofs.Taken.{by_answer_lem, line_faulty}
 use Rattle.whole_log.proofs.Lines.{from-taken, from_refused}
@@ -127,7 +128,7 @@ module _ (log : List ℕ) where
 pub first_bytes_decide : (lay : Layout) (file log w out : List ℕ) → log_of lay file log w out ≡ log_of lay file (take 8192 log) w out
 unfolding log_of
 first_bytes_decide lay file log w out =
-    ap (λ (f : Rule → Result). cond (ltb (length w) (work_size lay) || ltb (length out) 256) (not_read 20, w, out) (with_rule (rule_of file) (λ n. (not_read n, w, out)) f))
+    ap (λ (f : Rule → Whole). cond (ltb (length w) (work_size lay) || ltb (length out) 256) (not_read 20, w, out) (with_rule (rule_of file) (λ n. (not_read n, w, out)) f))
     (λ i x. same_from log lay file x w (suc (length log)) 0 no_trace out (omega arith) (omega arith) no_bytes i)
 
 -- ── the part that is read ──
@@ -176,9 +177,9 @@ unfolding read_part
 part_cut Full file log = refl
 part_cut FirstFailure file log = by_rule (rule_of file) refl
   where
-    by_rule : (q : RuleRead) → rule_of file ≡ q → read_part FirstFailure file (take 8192 log) ≡ take 8192 (read_part FirstFailure file log)
-    by_rule (RuleRead.Refused c) e = part_unruled FirstFailure file (take 8192 log) c e ∙ ap (take 8192) (sym (part_unruled FirstFailure file log c e))
-    by_rule (RuleRead.Rule x) e =
+    by_rule : (q : Result Rule Refusal) → rule_of file ≡ q → read_part FirstFailure file (take 8192 log) ≡ take 8192 (read_part FirstFailure file log)
+    by_rule (Err c) e = part_unruled FirstFailure file (take 8192 log) c e ∙ ap (take 8192) (sym (part_unruled FirstFailure file log c e))
+    by_rule (Ok x) e =
         one_part FirstFailure file x (take 8192 log) _ _ (part_of_lem file x e FirstFailure (take 8192 log)) (cut-failing file x log _ (part_of_lem file x e FirstFailure log))
 
 pub first_bytes_decide_part : (lay : Layout) (mode : Mode) (file log w out : List ℕ)

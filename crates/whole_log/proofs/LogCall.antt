@@ -12,7 +12,9 @@ use Rattle.trace.specs.Record.{record_of}
 use Rattle.pairs.specs.declared.Layout.{Layout}
 use Rattle.pairs.specs.Layout.{work_size}
 use Rattle.rules.specs.declared.Rule.{Rule}
-use Rattle.rules.specs.declared.RuleRead.{RuleRead}
+use Rattle.std.specs.Prelude.{Result, Ok, Err}
+use Rattle.refusals.specs.Refusal.{number}
+use Rattle.refusals.specs.declared.Refusal.{Refusal}
 use Rattle.rules.specs.Rules.{rule_of, ReadsRule}
 use Rattle.reading.specs.declared.Ending.TheVariants.{Refused}
 use Rattle.reading.specs.declared.LogRead.{LogRead}
@@ -54,14 +56,14 @@ module _ (lay : Layout) (mode : Mode) (file log w out : List ℕ) (a : LogRead) 
     unfolding log_of
     log_small h e = answered w out (simp (le-ltb (length w) (work_size lay) long, lt-ltb (length out) 256 h) (same 20 e))
 
-    module _ (room : 256 ≤ length out) (q : RuleRead) (rd : ReadsRule file q) where
-      pub log_unruled : (n : ℕ) → q ≡ RuleRead.Refused n → a ≡ not_read n → ChecksPart lay mode file log w out a w out
+    module _ (room : 256 ≤ length out) (q : Result Rule Refusal) (rd : ReadsRule file q) where
+      pub log_unruled : (n : Refusal) (m : ℕ) → q ≡ Err n → m ≡ number n → a ≡ not_read m → ChecksPart lay mode file log w out a w out
       unfolding log_of
-      log_unruled n e s =
+      log_unruled n m e g s =
           answered w out
-          (simp (le-ltb (length w) (work_size lay) long, le-ltb (length out) 256 room) (same n s ∙ sym (with_refused (rule_of file) n _ _ (sym rd.answer ∙ e))))
+          (simp (le-ltb (length w) (work_size lay) long, le-ltb (length out) 256 room) (same (number n) (s ∙ ap not_read g) ∙ sym (with_refused (rule_of file) n _ _ (sym rd.answer ∙ e))))
 
-      pub log_read : (x : Rule) → q ≡ RuleRead.Rule x → (v o : List ℕ) → ◌≡◌ {A = Whole} (a, v, o) (lines_from lay file x no_trace (lines_read mode file x (lines_of log)) w out)
+      pub log_read : (x : Rule) → q ≡ Ok x → (v o : List ℕ) → ◌≡◌ {A = Whole} (a, v, o) (lines_from lay file x no_trace (lines_read mode file x (lines_of log)) w out)
           → ChecksPart lay mode file log w out a v o
       unfolding log_of
       log_read x e v o s =

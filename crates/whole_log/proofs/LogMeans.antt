@@ -15,7 +15,7 @@ use Rattle.pairs.specs.declared.Layout.{Layout}
 use Rattle.pairs.specs.Layout.{work_size}
 use Rattle.pairs.specs.Pairs.{work_of}
 use Rattle.rules.specs.declared.Rule.{Rule}
-use Rattle.rules.specs.declared.RuleRead.TheVariants as RuleRead
+use Rattle.std.specs.Prelude.{Ok}
 use Rattle.rules.specs.Rules.{rule_of, formula_of}
 use Rattle.rules.proofs.Rules.{reads_rule}
 use Rattle.logic.specs.Verdict.{verdict_byte, verdict_of}
@@ -39,7 +39,7 @@ same_refusal : (c d n m : ℕ) → Refused d m ≡ Refused c n → (d ≡ c) × 
 same_refusal c d n m e = ((cc), (cc))
 
 module _ (lay : Layout) (file log w out : List ℕ) (a : LogRead) (v o : List ℕ) (answer : ◌≡◌ {A = Result} (a, v, o) (log_of lay file log w out)) where
-  module _ (x : Rule) (rule : rule_of file ≡ RuleRead.Rule x) (long : work_size lay ≤ length w) (room : 256 ≤ length out) where
+  module _ (x : Rule) (rule : rule_of file ≡ Ok x) (long : work_size lay ≤ length w) (room : 256 ≤ length out) where
     is : ◌≡◌ {A = Result} (a, v, o) (lines_from lay file x no_trace (lines_of log) w out)
     unfolding log_of
     is = answer ∙ simp (le-ltb (length w) (work_size lay) long, le-ltb (length out) 256 room) (with_taken (rule_of file) x _ _ rule)
@@ -115,7 +115,7 @@ module _ (lay : Layout) (file log w out : List ℕ) (a : LogRead) (v o : List �
           stops = stopped_log;
           verdicts = λ k u h e. record {
             byte = ap (λ (b : Result). get_or b.2 k 0) is ∙ first_byte k u h e (line_room_lem k u h e);
-            verdict = verdict_says file x ((reads_rule file (RuleRead.Rule x) (sym rule)).taken x refl) u;
+            verdict = verdict_says file x ((reads_rule file (Ok x) (sym rule)).taken x refl) u;
           };
           rest = λ k h. ap (λ (b : Result). get_or b.2 k 0) is ∙ bytes_rest lay file x w (lines_of log) no_trace out k (omega (arith, h, ap (λ (b : Result). b.0.state.lines.0) is));
           size = ap (λ (b : Result). length b.2) is ∙ bytes_size lay file x w (lines_of log) no_trace out;

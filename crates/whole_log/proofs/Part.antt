@@ -12,7 +12,8 @@ use Rattle.trace.proofs.Grown.{no_bytes, flat_lines, accepted_lines}
 use Rattle.trace.proofs.Taken.{by_answer_lem}
 use Rattle.pairs.specs.declared.Layout.{Layout}
 use Rattle.rules.specs.declared.Rule.{Rule}
-use Rattle.rules.specs.declared.RuleRead.TheVariants as RuleRead
+use Rattle.std.specs.Prelude.{Ok, Err}
+use Rattle.refusals.specs.declared.Refusal.{Refusal}
 use Rattle.rules.specs.Rules.{rule_of, formula_of, Taken}
 use Rattle.rules.proofs.Rules.{reads_rule}
 use Rattle.logic.specs.declared.Verdict.{Verdict}
@@ -199,14 +200,14 @@ pub part_full : (file log : List ℕ) → read_part Full file log ≡ log
 unfolding read_part
 part_full file log = refl
 
-pub part_unruled : (mode : Mode) (file log : List ℕ) (c : ℕ) → rule_of file ≡ RuleRead.Refused c → read_part mode file log ≡ log
+pub part_unruled : (mode : Mode) (file log : List ℕ) (c : Refusal) → rule_of file ≡ Err c → read_part mode file log ≡ log
 unfolding read_part
 part_unruled Full file log c e = refl
 part_unruled FirstFailure file log c e = with_refused (rule_of file) c _ _ e
 
-module _ (file : List ℕ) (x : Rule) (rule : rule_of file ≡ RuleRead.Rule x) where
+module _ (file : List ℕ) (x : Rule) (rule : rule_of file ≡ Ok x) where
   rule_taken : Taken file x
-  rule_taken = (reads_rule file (RuleRead.Rule x) (sym rule)).taken x refl
+  rule_taken = (reads_rule file (Ok x) (sym rule)).taken x refl
 
   pub part_ruled : (log : List ℕ) → read_part FirstFailure file log ≡ flat (to_failure file x no_trace (lines_of log))
   unfolding read_part

@@ -18,7 +18,7 @@ use Rattle.pairs.specs.Layout.{work_size}
 use Rattle.pairs.specs.Pairs.{work_of}
 use Rattle.pairs.specs.Start.{start_of}
 use Rattle.rules.specs.declared.Rule.{Rule}
-use Rattle.rules.specs.declared.RuleRead.TheVariants as RuleRead
+use Rattle.std.specs.Prelude.{Ok}
 use Rattle.rules.specs.Rules.{rule_of, formula_of}
 use Rattle.rules.proofs.Rules.{reads_rule}
 use Rattle.logic.specs.declared.Verdict.{Verdict}
@@ -40,7 +40,7 @@ use Rattle.whole_log.proofs.Lines.{from_none, from-taken, from_refused}
 pub left_by_lem : (lay : Layout) (log : List ℕ) (t : Trace) → Accepted log t → (w : List ℕ) → Left lay log t (record_of t) (work_of lay t w)
 left_by_lem lay log t a w = record { accepted = a; encoded = refl; pairs = sym (work_over lay t w t) }
 
-module _ (lay : Layout) (file : List ℕ) (x : Rule) (rule : rule_of file ≡ RuleRead.Rule x) (w : List ℕ) where
+module _ (lay : Layout) (file : List ℕ) (x : Rule) (rule : rule_of file ≡ Ok x) (w : List ℕ) where
   -- with the rule and a long work area, the call is the inner step
   line_is_step : (t : Trace) (v l : List ℕ) → work_size lay ≤ length v → (r : Record) → line_of lay file r v l (some t) ≡ advance_of lay file x t v l
   unfolding line_of state_of
@@ -57,7 +57,7 @@ module _ (lay : Layout) (file : List ℕ) (x : Rule) (rule : rule_of file ≡ Ru
       record {
         checked = (advance_of lay file x t v line).0;
         work = (advance_of lay file x t v line).1;
-        checks = line_known lay file r v line (work_size lay) refl (pairs_long lay t v v l.pairs) (RuleRead.Rule x) (reads_rule file (RuleRead.Rule x) (sym rule)) x refl true
+        checks = line_known lay file r v line (work_size lay) refl (pairs_long lay t v v l.pairs) (Ok x) (reads_rule file (Ok x) (sym rule)) x refl true
             (record { yes = λ _. standing_of lay log t r v l; no = λ e _. no_both e }) refl _ _
             (λ log' u m. ap (λ (s : Trace). advance_of lay file x s v line) (one_trace lay r v log log' t u l m));
       }
@@ -96,7 +96,7 @@ module _ (lay : Layout) (file : List ℕ) (x : Rule) (rule : rule_of file ≡ Ru
 
 -- THE LAW: for a rule that is taken and buffers that are long enough, the whole-log call gives what the single-line call gives on
 -- one line after another, from what starting a record answers on.
-pub log_is_repeated_line : (lay : Layout) (file log w out : List ℕ) (x : Rule) → rule_of file ≡ RuleRead.Rule x → work_size lay ≤ length w → 256 ≤ length out
+pub log_is_repeated_line : (lay : Layout) (file log w out : List ℕ) (x : Rule) → rule_of file ≡ Ok x → work_size lay ≤ length w → 256 ≤ length out
     → Repeats lay file (start_of lay w).0.state (start_of lay w).1 (lines_of log) out (log_of lay file log w out)
 unfolding log_of start_of
 log_is_repeated_line lay file log w out x rule long room =

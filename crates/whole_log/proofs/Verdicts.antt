@@ -13,11 +13,13 @@ use Rattle.lines.specs.Log.{lines_of}
 use Rattle.trace.specs.Trace.{Trace, next, no_trace, read, steps, Accepted}
 use Rattle.pairs.specs.declared.Layout.{Layout}
 use Rattle.pairs.specs.Layout.{work_size}
-use Rattle.rules.specs.declared.RuleRead.{RuleRead}
+use Rattle.std.specs.Prelude.{Result, Ok, Err}
+use Rattle.refusals.specs.declared.Refusal.{Refusal}
+use Rattle.rules.specs.declared.Rule.{Rule}
 use Rattle.rules.specs.Rules.{rule_of}
 use Rattle.single.specs.Line.{with_rule}
 use Rattle.whole_log.specs.Log.{not_read, lines_from, log_of}
-use Rattle.whole_log.specs.Repeated.{Result}
+use Rattle.whole_log.specs.Repeated.{Result as Whole}
 use Rattle.whole_log.proofs.LogMeans.{log_means}
 
 module _ (lay : Layout) (file w out : List ℕ) where
@@ -26,9 +28,9 @@ module _ (lay : Layout) (file w out : List ℕ) where
   unfolding log_of
   not_long log s = simp s
 
-  not_ruled : (log : List ℕ) (n : ℕ) → ltb (length w) (work_size lay) || ltb (length out) 256 ≡ false → rule_of file ≡ RuleRead.Refused n → (log_of lay file log w out).2 ≡ out
+  not_ruled : (log : List ℕ) (n : Refusal) → ltb (length w) (work_size lay) || ltb (length out) 256 ≡ false → rule_of file ≡ Err n → (log_of lay file log w out).2 ≡ out
   unfolding log_of with_rule
-  not_ruled log n s e = simp s (ap (λ (z : RuleRead). (with_rule {A = Result} z (λ m. (not_read m, w, out)) (λ x. lines_from lay file x no_trace (lines_of log) w out)).2) e)
+  not_ruled log n s e = simp s (ap (λ (z : Result Rule Refusal). (with_rule {A = Whole} z (λ m. (not_read m, w, out)) (λ x. lines_from lay file x no_trace (lines_of log) w out)).2) e)
 
   long : ltb (length w) (work_size lay) || ltb (length out) 256 ≡ false → work_size lay ≤ length w
   long s = either_lt (length w) (work_size lay) (λ h. let f : true ≡ false = simp (lt-ltb _ _ h) at s in no_both f) (λ h. h)
@@ -55,9 +57,9 @@ module _ (lay : Layout) (file w out : List ℕ) where
         (λ s. ap (λ (z : List ℕ). get_or z k 0) (not_long log s ∙ sym (not_long start s)))
         (λ s. by_rule (rule_of file) refl s)
       where
-        by_rule : (q : RuleRead) → rule_of file ≡ q → ltb (length w) (work_size lay) || ltb (length out) 256 ≡ false → get_or (log_of lay file log w out).2 k 0 ≡ get_or (log_of lay file start w out).2 k 0
-        by_rule (RuleRead.Refused n) e s = ap (λ (z : List ℕ). get_or z k 0) (not_ruled log n s e ∙ sym (not_ruled start n s e))
-        by_rule (RuleRead.Rule x) e s =
+        by_rule : (q : Result Rule Refusal) → rule_of file ≡ q → ltb (length w) (work_size lay) || ltb (length out) 256 ≡ false → get_or (log_of lay file log w out).2 k 0 ≡ get_or (log_of lay file start w out).2 k 0
+        by_rule (Err n) e s = ap (λ (z : List ℕ). get_or z k 0) (not_ruled log n s e ∙ sym (not_ruled start n s e))
+        by_rule (Ok x) e s =
             let b = ((log_means lay file log w out _ _ _ refl x e (long s) (room s)).verdicts k u within leaves).byte in
             let c = ((log_means lay file start w out _ _ _ refl x e (long s) (room s)).verdicts k u (omega (arith, count)) leaves_start).byte in
             b ∙ sym c

@@ -9,7 +9,7 @@ use Rattle.pairs.specs.declared.Layout.{Layout}
 use Rattle.pairs.specs.Layout.{work_size}
 use Rattle.pairs.specs.Pairs.{work_of}
 use Rattle.rules.specs.declared.Rule.{Rule}
-use Rattle.rules.specs.declared.RuleRead.TheVariants as RuleRead
+use Rattle.std.specs.Prelude.{Ok}
 use Rattle.rules.specs.Rules.{rule_of, formula_of}
 use Rattle.logic.specs.Verdict.{verdict_byte, verdict_of, Says}
 use Rattle.reading.specs.declared.Ending.TheVariants.{Read, Refused}
@@ -79,4 +79,4 @@ pub record LogMeans (lay : Layout) (file : List ℕ) (x : Rule) (log w out : Lis
 -- the contract, for every input; and what the answer means where the rule is taken and the buffers are long enough
 pub record ChecksLog (lay : Layout) (file log w out : List ℕ) (a : LogRead) (w' out' : List ℕ) : Type 0 where
   pub answer : ◌≡◌ {A = LogRead × List ℕ × List ℕ} (a, w', out') (log_of lay file log w out)
-  pub meaning : (x : Rule) → rule_of file ≡ RuleRead.Rule x → work_size lay ≤ length w → max_lines ≤ length out → LogMeans lay file x log w out a w' out'
+  pub meaning : (x : Rule) → rule_of file ≡ Ok x → work_size lay ≤ length w → max_lines ≤ length out → LogMeans lay file x log w out a w' out'

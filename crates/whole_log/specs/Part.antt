@@ -5,7 +5,7 @@ use Rattle.lines.specs.Log.{lines_of, flat}
 use Rattle.trace.specs.Trace.{Trace, next, no_trace, step, Accepted}
 use Rattle.pairs.specs.declared.Layout.{Layout}
 use Rattle.rules.specs.declared.Rule.{Rule}
-use Rattle.rules.specs.declared.RuleRead.TheVariants as RuleRead
+use Rattle.std.specs.Prelude.{Ok}
 use Rattle.rules.specs.Rules.{rule_of, formula_of}
 use Rattle.logic.specs.declared.Verdict.{Verdict}
 use Rattle.logic.specs.declared.Verdict.TheVariants.{Holds, Fails}
@@ -62,4 +62,4 @@ PartOf FirstFailure file x log part = ToFailure file x log part
 -- the call answers for the part that is read as the full call on it does
 pub record ChecksPart (lay : Layout) (mode : Mode) (file log w out : List ℕ) (a : LogRead) (w' out' : List ℕ) : Type 0 where
   pub checks : ChecksLog lay file (read_part mode file log) w out a w' out'
-  pub part : (x : Rule) → rule_of file ≡ RuleRead.Rule x → PartOf mode file x log (read_part mode file log)
+  pub part : (x : Rule) → rule_of file ≡ Ok x → PartOf mode file x log (read_part mode file log)

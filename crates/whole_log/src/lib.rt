@@ -16,7 +16,7 @@ ghost use Rattle.whole_log.specs.Part.{lines_read, ChecksPart};
 use lists::MAX_LINES;
 use pairs::Layout;
 use reading::{Ending, LogRead};
-use rules::{Rule, RuleRead};
+use rules::Rule;
 
 mod log;
 mod stop;
@@ -81,7 +81,7 @@ pub fn check_log(
     }
     let x = rule_file::read_rule(file);
     match x {
-        RuleRead::Refused(n) => return not_read(n),
-        RuleRead::Rule(rule) => return read_part(layout, mode, file, rule, log, work, verdicts),
+        Err(e) => return not_read(u8::from(e)),
+        Ok(rule) => return read_part(layout, mode, file, rule, log, work, verdicts),
     }
 }

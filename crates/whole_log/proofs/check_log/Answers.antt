@@ -9,11 +9,11 @@ returns-then-work-end c = search log_short
 pub returns-then-verdicts-lt-MAX_LINES : goal.returns-then-verdicts-lt-MAX_LINES
 returns-then-verdicts-lt-MAX_LINES c = search log_small
 
-pub returns-in-Refused : goal.returns-in-Refused
-returns-in-Refused c = search log_unruled
+pub returns-in-Err : goal.returns-in-Err
+returns-in-Err c = search log_unruled
 
 pub read_part-requires : goal.read_part-requires
 read_part-requires c = record { taken = search rule_taken; layout_in_bounds = (search rules, search rules) }
 
-pub returns-in-Rule : goal.returns-in-Rule
-returns-in-Rule c = search log_read
+pub returns-in-Ok : goal.returns-in-Ok
+returns-in-Ok c = search log_read

@@ -1,13 +1,9 @@
 -- Each test's outcome says which fault of the label decides.
-use native.Mathlib.Omega.{arith}
 use Rattle.rules.proofs.Labels.{label-cases}
 use Rattle.rules.proofs.file_labels.label.Goals as goal
 
 pub returns-then-file-at-lt1 : goal.returns-then-file-at-lt1
 returns-then-file-at-lt1 c = search label-cases
-
-pub overflow_cast-size : goal.overflow_cast-size
-overflow_cast-size c = omega (arith, c.type_inv.file c.args.at)
 
 pub returns-then-size-lt1 : goal.returns-then-size-lt1
 returns-then-size-lt1 c = search label-cases

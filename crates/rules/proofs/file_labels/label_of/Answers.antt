@@ -7,23 +7,16 @@ pub label_place-p-requires : goal.label_place-p-requires
 label_place-p-requires c = λ i h. c.requires i (omega arith)
 
 pub overflow_add-from : goal.overflow_add-from
-overflow_add-from c = let r = label_room_lem _ _ _ _ c.requires c.label_place-p.ensures (omega arith) in
-    omega arith
+overflow_add-from c = omega (arith, label_room_lem _ _ _ _ c.requires c.label_place-p.ensures (omega arith))
 
 pub bounds-file-p : goal.bounds-file-p
-bounds-file-p c = let r = label_room_lem _ _ _ _ c.requires c.label_place-p.ensures (omega arith) in
-    omega arith
-
-pub overflow_cast-end : goal.overflow_cast-end
-overflow_cast-end c = omega (arith, c.type_inv.file c.label_place-p.result)
+bounds-file-p c = omega (arith, label_room_lem _ _ _ _ c.requires c.label_place-p.ensures (omega arith))
 
 pub overflow_add-end : goal.overflow_add-end
-overflow_add-end c = let r = label_room_lem _ _ _ _ c.requires c.label_place-p.ensures (omega arith) in
-    omega arith
+overflow_add-end c = omega (arith, label_room_lem _ _ _ _ c.requires c.label_place-p.ensures (omega arith))
 
 pub slice_bounds-label_from-end : goal.slice_bounds-label_from-end
-slice_bounds-label_from-end c = let r = label_room_lem _ _ _ _ c.requires c.label_place-p.ensures (omega arith) in
-    omega arith
+slice_bounds-label_from-end c = omega (arith, label_room_lem _ _ _ _ c.requires c.label_place-p.ensures (omega arith))
 
 pub label_from-requires : goal.label_from-requires
 label_from-requires c = label_short _ _ _ c.requires c.label_place-p.ensures

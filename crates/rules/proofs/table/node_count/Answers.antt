@@ -1,13 +1,9 @@
 -- The byte at the place is tested as in the definition.
-use native.Mathlib.Omega.{arith}
 use Rattle.rules.proofs.Parts.{Node-Counts}
 use Rattle.rules.proofs.table.node_count.Goals as goal
 
 pub returns-then-file-at : goal.returns-then-file-at
 returns-then-file-at c = search Node-Counts
-
-pub overflow_cast-count : goal.overflow_cast-count
-overflow_cast-count c = omega (arith, c.type_inv.file c.args.at)
 
 pub returns-then-count-lt1 : goal.returns-then-count-lt1
 returns-then-count-lt1 c = search Node-Counts

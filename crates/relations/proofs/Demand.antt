@@ -10,7 +10,8 @@ use borrow.Author.Tests.{le-leb, lt-leb}
 use lib.Dec.{T}
 use Rattle.trace.specs.Trace.{start, finish}
 use Rattle.trace.proofs.Accepted.{accepted_orderly}
-use Rattle.relations.specs.declared.Composed.TheVariants.{Set, Refused}
+use Rattle.std.specs.Prelude.{Ok, Err}
+use Rattle.refusals.specs.declared.Refusal.TheVariants.{NoSet}
 use Rattle.relations.specs.Relation.{Relation}
 use Rattle.relations.specs.Sets.{member?, any?}
 use Rattle.relations.specs.Runs.{FinishedRun}
@@ -68,20 +69,20 @@ compose_low : (a b : ℕ) → compose_of a b ≤ 63
 unfolding compose_of
 compose_low a b = set_low (through? a b)
 
-pub composed : (a b k c : ℕ) → a ≤ 63 → b ≤ 63 → k ≡ 64 * a + b → c ≡ compose_of (k / 64) (k % 64) → Composition a b (Set c)
+pub composed : (a b k c : ℕ) → a ≤ 63 → b ≤ 63 → k ≡ 64 * a + b → c ≡ compose_of (k / 64) (k % 64) → Composition a b (Ok c)
 composed a b k c ha hb e h =
     let p : k / 64 ≡ a = omega arith in
     let q : k % 64 ≡ b = omega arith in
     let i : c ≡ compose_of a b = rw (p, q) at h in
     record {
-      answer = simp (le-leb a 63 ha, le-leb b 63 hb) (ap Set i);
+      answer = simp (le-leb a 63 ha, le-leb b 63 hb) (ap Ok i);
       is_set = λ d m. omega (arith, set_is c d m, compose_low a b);
       demand-3 = demand-3;
     }
 
-pub first_no_set : (a b : ℕ) → 63 < a → Composition a b (Refused 14)
-first_no_set a b h = record { answer = simp (lt-leb a 63 h); is_set = λ d e. no_set 14 d e; demand-3 = demand-3 }
+pub first_no_set : (a b : ℕ) → 63 < a → Composition a b (Err NoSet)
+first_no_set a b h = record { answer = simp (lt-leb a 63 h); is_set = λ d e. no_set d e; demand-3 = demand-3 }
 
-pub second_no_set : (a b : ℕ) → a ≤ 63 → 63 < b → Composition a b (Refused 14)
+pub second_no_set : (a b : ℕ) → a ≤ 63 → 63 < b → Composition a b (Err NoSet)
 second_no_set a b g h =
-    record { answer = simp (le-leb a 63 g, lt-leb b 63 h); is_set = λ d e. no_set 14 d e; demand-3 = demand-3 }
+    record { answer = simp (le-leb a 63 g, lt-leb b 63 h); is_set = λ d e. no_set d e; demand-3 = demand-3 }

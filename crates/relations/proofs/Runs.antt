@@ -11,14 +11,15 @@ use borrow.Author.Tests.{eq-eqb, ne_eqb, lt-ltb, le-ltb}
 use lib.ListN.{length, get_or, get_or-eq_default}
 use Rattle.lists.proofs.Cases.{either_lt, either_eq, no_both}
 use Rattle.lists.proofs.Lists.{get_d_pad}
+use Rattle.std.specs.Prelude.{Result, Ok, Err}
+use Rattle.refusals.specs.declared.Refusal.{Refusal}
+use Rattle.refusals.specs.declared.Refusal.TheVariants.{NoRecord, NoFinishedRun, SameRun}
 use Rattle.trace.specs.declared.Record.{Record}
 use Rattle.trace.specs.declared.RunNo.{RunNo}
 use Rattle.trace.specs.Trace.{Trace, no_run, run_at, end_line, start, finish, Finished, Accepted}
 use Rattle.trace.specs.Record.{record_of, Valid}
 use Rattle.trace.proofs.Accepted.{accepted_orderly}
 use Rattle.relations.specs.declared.Span.{Span}
-use Rattle.relations.specs.declared.Related.{Related}
-use Rattle.relations.specs.declared.Related.TheVariants.{Relation as Relation-no, Refused}
 use Rattle.relations.specs.Relation.{Relation, number, relation_of, OneHolds, Apart}
 use Rattle.relations.specs.Runs.{span_of, FinishedRun, RelatesRuns, relation_in, relate_in, RelatedAs, Answers, Relating}
 use Rattle.relations.proofs.Relation.{six_at, one_holds}
@@ -56,7 +57,7 @@ module _ (log : List ℕ) (t : Trace) (accepted : Accepted log t) (x y : ℕ) (d
 
 -- ── the answer by the log ──
 module _ (t : Trace) (a b : ℕ) where
-  pub not_finished : (FinishedRun t a × FinishedRun t b → ⊥) → Refused 22 ≡ relate_in t a b
+  pub not_finished : (FinishedRun t a × FinishedRun t b → ⊥) → Err NoFinishedRun ≡ relate_in t a b
   unfolding relate_in
   not_finished n =
       either_lt 0 (end_line (run_at t a))
@@ -65,13 +66,13 @@ module _ (t : Trace) (a b : ℕ) where
       (λ q. simp (lt-ltb _ _ p, le-ltb _ _ q)))
       (λ p. simp (le-ltb _ _ p))
 
-  pub same_finished : FinishedRun t a → a ≡ b → Refused 23 ≡ relate_in t a b
+  pub same_finished : FinishedRun t a → a ≡ b → Err SameRun ≡ relate_in t a b
   unfolding relate_in
   same_finished f e =
       let g : 0 < end_line (run_at t b) = subst (λ (k : ℕ). 0 < end_line (run_at t k)) e f.ended in
       simp (lt-ltb _ _ f.ended, lt-ltb _ _ g, eq-eqb _ _ e)
 
-  pub both_finished : FinishedRun t a → FinishedRun t b → a ≢ b → Relation-no (relation_in t a b) ≡ relate_in t a b
+  pub both_finished : FinishedRun t a → FinishedRun t b → a ≢ b → Ok (relation_in t a b) ≡ relate_in t a b
   unfolding relate_in
   both_finished f g n = simp (lt-ltb _ _ f.ended, lt-ltb _ _ g.ended, ne_eqb _ _ n)
 
@@ -85,25 +86,25 @@ module _ (t : Trace) (a b : ℕ) where
       (λ p. u (λ h. omega (arith, h.0.ended)))
 
 -- the variants are not the same
-refused_is : (m n : ℕ) → Refused m ≡ Refused n → m ≡ n
-refused_is m n e = cc
-
-relation_is : (m n : ℕ) → Relation-no m ≡ Relation-no n → m ≡ n
+relation_is : (m n : ℕ) → ◌≡◌ {A = Result ℕ Refusal} (Ok m) (Ok n) → m ≡ n
 relation_is m n e = cc
 
-not_refused : {C : Type 0} (m n : ℕ) → Relation-no m ≡ Refused n → C
-not_refused m n e = absurd (let z : ◌≡◌ {A = ℕ} 0 1 = cc in omega arith)
+not_refused : {C : Type 0} (m : ℕ) (n : Refusal) → Ok m ≡ Err n → C
+not_refused m n e = cc
+
+not_both : {C : Type 0} → ◌≡◌ {A = Result ℕ Refusal} (Err SameRun) (Err NoFinishedRun) → C
+not_both e = cc
 
 -- one number only
 one_number : {s f u g m n : ℕ} → OneHolds s f u g m → OneHolds s f u g n → m ≡ n
 one_number h k = sym h.is ∙ (ap number (k.only h.relation h.holds) ∙ k.is)
 
 module _ (log : List ℕ) (t : Trace) (accepted : Accepted log t) (a b : ℕ) where
-  answer_relation : (n : ℕ) → relate_in t a b ≡ Relation-no n → RelatedAs t a b n
+  answer_relation : (n : ℕ) → relate_in t a b ≡ Ok n → RelatedAs t a b n
   answer_relation n e =
       by_runs t a b
-      (λ u. not_refused n 22 (sym (not_finished t a b u ∙ e)))
-      (λ f s. not_refused n 23 (sym (same_finished t a b f s ∙ e)))
+      (λ u. not_refused n NoFinishedRun (sym (not_finished t a b u ∙ e)))
+      (λ f s. not_refused n SameRun (sym (same_finished t a b f s ∙ e)))
       (λ f g d.
       record {
         first = f;
@@ -112,23 +113,23 @@ module _ (log : List ℕ) (t : Trace) (accepted : Accepted log t) (a b : ℕ) wh
         one = subst (OneHolds _ _ _ _) (relation_is _ n (both_finished t a b f g d ∙ e)) (one_relation log t accepted a b d f g);
       })
 
-  relation_answer : (n : ℕ) → RelatedAs t a b n → relate_in t a b ≡ Relation-no n
+  relation_answer : (n : ℕ) → RelatedAs t a b n → relate_in t a b ≡ Ok n
   relation_answer n w =
       sym (both_finished t a b w.first w.second w.different)
-      ∙ ap Relation-no (one_number (one_relation log t accepted a b w.different w.first w.second) w.one)
+      ∙ ap Ok (one_number (one_relation log t accepted a b w.different w.first w.second) w.one)
 
-  answer_unfinished : relate_in t a b ≡ Refused 22 → FinishedRun t a × FinishedRun t b → ⊥
+  answer_unfinished : relate_in t a b ≡ Err NoFinishedRun → FinishedRun t a × FinishedRun t b → ⊥
   answer_unfinished e h =
       by_runs t a b (λ u. u h)
-      (λ f s. let z = refused_is 23 22 (same_finished t a b f s ∙ e) in omega arith)
-      (λ f g d. not_refused _ 22 (both_finished t a b f g d ∙ e))
+      (λ f s. not_both (same_finished t a b f s ∙ e))
+      (λ f g d. not_refused _ NoFinishedRun (both_finished t a b f g d ∙ e))
 
-  answer_same : relate_in t a b ≡ Refused 23 → FinishedRun t a × (a ≡ b)
+  answer_same : relate_in t a b ≡ Err SameRun → FinishedRun t a × (a ≡ b)
   answer_same e =
       by_runs t a b
-      (λ u. let z = refused_is 22 23 (not_finished t a b u ∙ e) in absurd (omega arith))
+      (λ u. not_both (sym (not_finished t a b u ∙ e)))
       (λ f s. (f, s))
-      (λ f g d. not_refused _ 23 (both_finished t a b f g d ∙ e))
+      (λ f g d. not_refused _ SameRun (both_finished t a b f g d ∙ e))
 
   answers_at : Answers t a b (relate_in t a b)
   answers_at =
@@ -139,12 +140,12 @@ module _ (log : List ℕ) (t : Trace) (accepted : Accepted log t) (a b : ℕ) wh
         same = (answer_same, λ h. sym (same_finished t a b h.0 h.1));
       }
 
-  pub answers : (w : Related) → w ≡ relate_in t a b → Answers t a b w
+  pub answers : (w : Result ℕ Refusal) → w ≡ relate_in t a b → Answers t a b w
   answers w e = rw e answers_at
 
 -- ── the answer by the record ──
 module _ (r : Record) (a b : RunNo) where
-  pub no_record : (Valid r → ⊥) → Relating r a b (Refused 21)
+  pub no_record : (Valid r → ⊥) → Relating r a b (Err NoRecord)
   no_record n =
       record {
         decided = (false, record { yes = λ e. no_both (sym e); no = λ _. n });
@@ -152,7 +153,7 @@ module _ (r : Record) (a b : RunNo) where
         unknown = λ _. refl;
       }
 
-  of_record : (w : Related) → Valid r → ((t : Trace) → r ≡ record_of t → w ≡ relate_in t a.0 b.0) → Relating r a b w
+  of_record : (w : Result ℕ Refusal) → Valid r → ((t : Trace) → r ≡ record_of t → w ≡ relate_in t a.0 b.0) → Relating r a b w
   of_record w v says =
       record {
         decided = (true, record { yes = λ _. v; no = λ e. no_both e });
@@ -170,29 +171,29 @@ module _ (r : Record) (a b : RunNo) where
     finish_first : (t : Trace) → r ≡ record_of t → x.finish ≡ finish t a.0
     finish_first t e = ap (λ (s : Span). s.finish) (span_in t a.0 x p e)
 
-    pub first_unfinished : x.finish ≡ 0 → Relating r a b (Refused 22)
-    first_unfinished z = of_record (Refused 22) v (λ t e. not_finished t a.0 b.0 (λ h. omega (arith, h.0.ended, finish_first t e)))
+    pub first_unfinished : x.finish ≡ 0 → Relating r a b (Err NoFinishedRun)
+    first_unfinished z = of_record (Err NoFinishedRun) v (λ t e. not_finished t a.0 b.0 (λ h. omega (arith, h.0.ended, finish_first t e)))
 
     module _ (y : Span) (q : y ≡ span_of (get_or r.runs.list b.0 no_run)) where
       finish_second : (t : Trace) → r ≡ record_of t → y.finish ≡ finish t b.0
       finish_second t e = ap (λ (s : Span). s.finish) (span_in t b.0 y q e)
 
-      pub second-unfinished : y.finish ≡ 0 → Relating r a b (Refused 22)
+      pub second-unfinished : y.finish ≡ 0 → Relating r a b (Err NoFinishedRun)
       second-unfinished z =
-          of_record (Refused 22) v (λ t e. not_finished t a.0 b.0 (λ h. omega (arith, h.1.ended, finish_second t e)))
+          of_record (Err NoFinishedRun) v (λ t e. not_finished t a.0 b.0 (λ h. omega (arith, h.1.ended, finish_second t e)))
 
-      pub same_run : x.finish ≢ 0 → a.0 ≡ b.0 → Relating r a b (Refused 23)
+      pub same_run : x.finish ≢ 0 → a.0 ≡ b.0 → Relating r a b (Err SameRun)
       same_run n s =
-          of_record (Refused 23) v
+          of_record (Err SameRun) v
           (λ t e. same_finished t a.0 b.0 (finished_run t a.0 (omega (arith, finish_first t e))) s)
 
       pub two_runs : x.finish ≢ 0 → y.finish ≢ 0 → a.0 ≢ b.0 → (n : ℕ)
-          → n ≡ relation_of x.start x.finish y.start y.finish → Relating r a b (Relation-no n)
+          → n ≡ relation_of x.start x.finish y.start y.finish → Relating r a b (Ok n)
       two_runs m n d k s =
-          of_record (Relation-no k) v
+          of_record (Ok k) v
           (λ t e.
           let f = finished_run t a.0 (omega (arith, finish_first t e)) in
           let g = finished_run t b.0 (omega (arith, finish_second t e)) in
           let i : relation_of x.start x.finish y.start y.finish ≡ relation_in t a.0 b.0 =
           (λ j. relation_of (span_in t a.0 x p e j).start (span_in t a.0 x p e j).finish (span_in t b.0 y q e j).start (span_in t b.0 y q e j).finish) in
-          ap Relation-no (s ∙ i) ∙ both_finished t a.0 b.0 f g d)
+          ap Ok (s ∙ i) ∙ both_finished t a.0 b.0 f g d)

@@ -11,7 +11,9 @@ use lib.Bits.{bit_and}
 use lib.Dec.{T, eqb, leb, eqb→eq, eqb_refl, leb→le}
 use lib.ListN.{replicate}
 use Rattle.trace.specs.Trace.{Trace}
-use Rattle.relations.specs.declared.Composed.TheVariants.{Set, Refused}
+use Rattle.std.specs.Prelude.{Result, Ok, Err}
+use Rattle.refusals.specs.declared.Refusal.{Refusal}
+use Rattle.refusals.specs.declared.Refusal.TheVariants.{NoSet}
 use Rattle.relations.specs.Relation.{Relation, before, after, overlaps, overlapped, includes, during, number, converse}
 use Rattle.relations.specs.Sets.{Member, member?, set_of, converse_of}
 use Rattle.relations.specs.Runs.{RelatedBy, Conversed}
@@ -147,17 +149,17 @@ converse_bits c h =
     eqb→eq (bit_and c 21 * 2 + bit_and c 42 / 2) (converse_of c)
     (at (λ k _. eqb (bit_and k 21 * 2 + bit_and k 42 / 2) (converse_of k)) sets tt c (omega arith))
 
-pub set_is : (m d : ℕ) → Set m ≡ Set d → m ≡ d
+pub set_is : (m d : ℕ) → ◌≡◌ {A = Result ℕ Refusal} (Ok m) (Ok d) → m ≡ d
 set_is m d e = cc
 
-pub no_set : {C : Type 0} (n d : ℕ) → Refused n ≡ Set d → C
-no_set n d e = absurd (let z : ◌≡◌ {A = ℕ} 0 1 = cc in omega arith)
+pub no_set : {C : Type 0} (d : ℕ) → Err NoSet ≡ Ok d → C
+no_set d e = cc
 
 converse_low : (c : ℕ) → converse_of c ≤ 63
 unfolding converse_of
 converse_low c = set_low (λ r. member? (converse r) c)
 
-pub conversed : (c d : ℕ) → c ≤ 63 → d ≡ converse_of c → Conversed c (Set d)
+pub conversed : (c d : ℕ) → c ≤ 63 → d ≡ converse_of c → Conversed c (Ok d)
 conversed c d h e =
     let low : c < 64 = omega arith in
     rw e
@@ -170,12 +172,12 @@ conversed c d h e =
           λ m q. subst (λ (k : ℕ). (t : Trace) (x y : ℕ) → RelatedBy c t x y ↔ RelatedBy k t y x) (set_is _ _ q) (converse-relates c low);
     })
 
-pub not_conversed : (c : ℕ) → 63 < c → Conversed c (Refused 14)
+pub not_conversed : (c : ℕ) → 63 < c → Conversed c (Err NoSet)
 not_conversed c h =
     record {
       answer = simp (lt-leb c 63 h);
-      is_set = λ d e. no_set 14 d e;
-      members = λ d e. no_set 14 d e;
-      twice = λ d e. no_set 14 d e;
-      backwards = λ d e. no_set 14 d e;
+      is_set = λ d e. no_set d e;
+      members = λ d e. no_set d e;
+      twice = λ d e. no_set d e;
+      backwards = λ d e. no_set d e;
     }

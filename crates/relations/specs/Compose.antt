@@ -1,11 +1,11 @@
 -- The composition of two sets of relations, and demand 3: what it says of accepted logs.
-use Rattle.std.specs.Prelude.{ℕ, ◌<◌, ◌≡◌, ◌≢◌, ◌↔◌, Bool, ◌&&◌, cond, List, leb, length}
+use Rattle.std.specs.Prelude.{ℕ, ◌<◌, ◌≡◌, ◌≢◌, ◌↔◌, Bool, ◌&&◌, cond, List, leb, length, Result, Ok, Err}
+use Rattle.refusals.specs.declared.Refusal.{Refusal}
+use Rattle.refusals.specs.declared.Refusal.TheVariants.{NoSet}
 use Rattle.trace.specs.Trace.{Trace, Accepted}
 use Rattle.relations.specs.Relation.{Relation, before, after, overlaps, overlapped, includes, during, number}
 use Rattle.relations.specs.Sets.{Member, member?, any?, set_of}
 use Rattle.relations.specs.Runs.{FinishedRun, RelatesRuns, RelatedBy}
-use Rattle.relations.specs.declared.Composed.{Composed}
-use Rattle.relations.specs.declared.Composed.TheVariants.{Set, Refused}
 
 -- ── what a log shows ──
 -- "some accepted log, of any length, has three different finished runs where a member of the first set relates the first run
@@ -84,8 +84,8 @@ unfoldable pub compose_of : ℕ → ℕ → ℕ
 compose_of a b = set_of (through? a b)
 
 -- "takes two sets and answers a set, the composition that demand 3 calls reported, or refuses with 14"
-abbrev pub composed_of : ℕ → ℕ → Composed
-composed_of a b = cond (leb a 63 && leb b 63) (Set (compose_of a b)) (Refused 14)
+abbrev pub composed_of : ℕ → ℕ → Result ℕ Refusal
+composed_of a b = cond (leb a 63 && leb b 63) (Ok (compose_of a b)) (Err NoSet)
 
 -- ── demand 3 ──
 -- For the sets a and b and the relation r: r is in the composition exactly when some accepted log shows it, and wherever a log
@@ -99,9 +99,9 @@ abbrev pub CompositionLaw : Type 0
 CompositionLaw = (a b : ℕ) → a < 64 → b < 64 → (r : Relation) → ExactlyShown a b r
 
 -- What the composing call answers for any two numbers, and demand 3.
-pub record Composition (a b : ℕ) (w : Composed) : Type 0 where
+pub record Composition (a b : ℕ) (w : Result ℕ Refusal) : Type 0 where
   pub answer : w ≡ composed_of a b
-  pub is_set : (c : ℕ) → w ≡ Set c → c < 64
+  pub is_set : (c : ℕ) → w ≡ Ok c → c < 64
   pub demand-3 : CompositionLaw
 
 -- ── the worked cases ──

@@ -1,8 +1,8 @@
 -- Sets of relations. "A set is a sum of these, 0 to 63, and its members are the relations summed."
-use Rattle.std.specs.Prelude.{ℕ, ◌+◌, ◌/◌, ◌%◌, ◌≡◌, Bool, ◌||◌, cond, eqb, leb}
+use Rattle.std.specs.Prelude.{ℕ, ◌+◌, ◌/◌, ◌%◌, ◌≡◌, Bool, ◌||◌, cond, eqb, leb, Result, Ok, Err}
+use Rattle.refusals.specs.declared.Refusal.{Refusal}
+use Rattle.refusals.specs.declared.Refusal.TheVariants.{NoSet}
 use Rattle.relations.specs.Relation.{Relation, before, after, overlaps, overlapped, includes, during, number, converse}
-use Rattle.relations.specs.declared.Composed.{Composed}
-use Rattle.relations.specs.declared.Composed.TheVariants.{Set, Refused}
 
 -- r is a member of the set c: its number, a power of two, is one of those summed
 abbrev pub Member : Relation → ℕ → Type 0
@@ -26,5 +26,5 @@ unfoldable pub converse_of : ℕ → ℕ
 converse_of c = set_of (λ r. member? (converse r) c)
 
 -- "14 a relation set above 63"
-abbrev pub conversed_of : ℕ → Composed
-conversed_of c = cond (leb c 63) (Set (converse_of c)) (Refused 14)
+abbrev pub conversed_of : ℕ → Result ℕ Refusal
+conversed_of c = cond (leb c 63) (Ok (converse_of c)) (Err NoSet)

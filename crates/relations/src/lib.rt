@@ -12,6 +12,7 @@ ghost use Rattle.relations.specs.Compose.{Composition};
 
 use lists::MAX_RUNS;
 use positions::{all_fit, cut, signs_narrow, signs_wide};
+use refusals::Refusal;
 use trace::{Record, RunNo, RunTable};
 
 mod naming;
@@ -37,20 +38,6 @@ const ALL: u8 = 63;
 const FORWARDS: u8 = BEFORE + OVERLAPS + INCLUDES;
 
 const BACKWARDS: u8 = AFTER + OVERLAPPED + DURING;
-
-// The number of the relation of two runs, or of the refusal.
-#[derive(Clone, Copy)]
-pub enum Related {
-    Relation(u8),
-    Refused(u8),
-}
-
-// A set of relations, or the number of the refusal.
-#[derive(Clone, Copy)]
-pub enum Composed {
-    Set(u8),
-    Refused(u8),
-}
 
 // The lines where a run starts and finishes: 0 for none.
 #[derive(Clone, Copy)]
@@ -92,26 +79,26 @@ fn span_of(t: RunTable, k: RunNo) -> Span
     }
 }
 
-// The relation of run a to run b of the record, or 21, 22, 23.
-pub fn relate(r: Record, a: RunNo, b: RunNo) -> Related
+// The number of the relation of run a to run b of the record.
+pub fn relate(r: Record, a: RunNo, b: RunNo) -> Result<u8, Refusal>
     ensures { Relating r a b result }
 {
     if !replay::is_record(r) {
-        return Related::Refused(21);
+        return Err(Refusal::NoRecord);
     }
     let runs = r.runs;
     let x = span_of(runs, a);
     if x.finish == 0 {
-        return Related::Refused(22);
+        return Err(Refusal::NoFinishedRun);
     }
     let y = span_of(runs, b);
     if y.finish == 0 {
-        return Related::Refused(22);
+        return Err(Refusal::NoFinishedRun);
     }
     if a.0 == b.0 {
-        return Related::Refused(23);
+        return Err(Refusal::SameRun);
     }
-    Related::Relation(relation_between(x.start, x.finish, y.start, y.finish))
+    Ok(relation_between(x.start, x.finish, y.start, y.finish))
 }
 
 // A set as a number that a place of the table is reckoned with.
@@ -121,25 +108,25 @@ fn wide(x: u8) -> usize
     x as usize
 }
 
-// The composition of two sets, or 14.
-pub fn compose(a: u8, b: u8) -> Composed
+// The composition of two sets.
+pub fn compose(a: u8, b: u8) -> Result<u8, Refusal>
     ensures { Composition a b result }
 {
     if a > ALL {
-        return Composed::Refused(14);
+        return Err(Refusal::NoSet);
     }
     if b > ALL {
-        return Composed::Refused(14);
+        return Err(Refusal::NoSet);
     }
-    Composed::Set(table::entry(64 * wide(a) + wide(b)))
+    Ok(table::entry(64 * wide(a) + wide(b)))
 }
 
-// The converses of a set's members, or 14.
-pub fn converse(c: u8) -> Composed
+// The converses of a set's members.
+pub fn converse(c: u8) -> Result<u8, Refusal>
     ensures { Conversed c result }
 {
     if c > ALL {
-        return Composed::Refused(14);
+        return Err(Refusal::NoSet);
     }
-    Composed::Set((c & FORWARDS) * 2 + (c & BACKWARDS) / 2)
+    Ok((c & FORWARDS) * 2 + (c & BACKWARDS) / 2)
 }

@@ -1,15 +1,7 @@
 // Runs of records, related.
 use super::sets;
-use relations::Related;
 use std::io::Stdout;
 use trace::{Record, RunNo};
-
-fn show(out: Stdout, text: &[u8], x: Related) {
-    match x {
-        Related::Relation(n) => sets::answer(out, text, n),
-        Related::Refused(code) => sets::refusal(out, text, code),
-    }
-}
 
 // The record of a log.
 fn read(out: Stdout, text: &[u8]) -> Record {
@@ -22,7 +14,7 @@ fn read(out: Stdout, text: &[u8]) -> Record {
 fn relate(out: Stdout, r: Record, text: &[u8]) {
     let a = RunNo(test_cases::byte(text, 0));
     let b = RunNo(test_cases::byte(text, 1));
-    show(out, text, relations::relate(r, a, b));
+    sets::show(out, text, relations::relate(r, a, b));
 }
 
 // The record after a case.

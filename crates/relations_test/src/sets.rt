@@ -1,9 +1,9 @@
 // Positions, compositions and converses.
-use relations::Composed;
+use refusals::Refusal;
 use std::io::Stdout;
 
 // Writes a text and a number.
-pub fn answer(out: Stdout, text: &[u8], n: u8) {
+fn answer(out: Stdout, text: &[u8], n: u8) {
     test_text::write(out, text);
     test_text::write(out, b": ");
     test_text::write_number(out, test_text::wide(n));
@@ -11,17 +11,18 @@ pub fn answer(out: Stdout, text: &[u8], n: u8) {
 }
 
 // Writes a text and a refusal.
-pub fn refusal(out: Stdout, text: &[u8], code: u8) {
+fn refusal(out: Stdout, text: &[u8], refusal: Refusal) {
     test_text::write(out, text);
     test_text::write(out, b": ");
-    test_text::write_refusal(out, code);
+    test_text::write_refusal(out, u8::from(refusal));
     test_text::write(out, b"\n");
 }
 
-fn show(out: Stdout, text: &[u8], c: Composed) {
-    match c {
-        Composed::Set(n) => answer(out, text, n),
-        Composed::Refused(code) => refusal(out, text, code),
+// Writes a text and what a call answers.
+pub fn show(out: Stdout, text: &[u8], answered: Result<u8, Refusal>) {
+    match answered {
+        Ok(n) => answer(out, text, n),
+        Err(e) => refusal(out, text, e),
     }
 }
 

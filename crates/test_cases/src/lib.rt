@@ -10,15 +10,6 @@ ghost use Rattle.input.specs.Counts.{IsPrefixLen};
 
 use std::io::{Read, Stdin};
 
-// One case: its kind, where its text stands in the input, and where the next case begins.
-#[derive(Clone, Copy)]
-pub struct Case {
-    pub kind: u8,
-    pub start: usize,
-    pub end: usize,
-    pub next: usize,
-}
-
 // What a byte of a text is part of: a backslash that is read, `\x`, its first digit, or a byte that the text has.
 #[derive(Clone, Copy)]
 enum Reading {
@@ -28,41 +19,20 @@ enum Reading {
     Byte(u8),
 }
 
-// The place of the next LF, or the end.
-fn line_end(input: &[u8], start: usize) -> usize
-    requires { start ≤ length input.now }
-    ensures { (start ≤ result) × (result ≤ length input.now) }
-{
-    let mut at = start;
-    while at < input.len() {
-        if input[at] == b'\n' {
-            return at;
-        }
-        at += 1;
-    }
-    at
+// The text of a case: what stands behind its kind and a space, up to the LF.
+fn text_of(line: &[u8]) -> &[u8] {
+    let text = line.strip_suffix(b"\n").unwrap_or(line);
+    text.get(2..).unwrap_or(&[])
 }
 
-// The case that begins at a place.
-pub fn case_at(input: &[u8], at: usize) -> Case
-    requires { at < length input.now }
-    ensures { (result.start ≤ result.end) × (result.end ≤ length input.now) × (at < result.next) }
+// Calls f with the kind and the text of each case.
+pub fn each_case<F: FnMut(u8, &[u8])>(input: &[u8], mut f: F)
+    requires { F.IsAlwaysCallable f }
 {
-    let kind = input[at];
-    let end = line_end(input, at);
-    if end - at < 2 {
-        return Case {
-            kind: kind,
-            start: end,
-            end: end,
-            next: end + 1,
-        };
-    }
-    Case {
-        kind: kind,
-        start: at + 2,
-        end: end,
-        next: end + 1,
+    for line in input.split_inclusive(|b| *b == b'\n') {
+        if let Some(kind) = line.first() {
+            f(*kind, text_of(line));
+        }
     }
 }
 
@@ -121,11 +91,9 @@ pub fn append(text: &[u8], out: &mut [u8], from: usize) -> usize
 {
     let mut r = Reading::Byte(0);
     let mut n = from;
-    let mut i: usize = 0;
-    while i < text.len() {
-        r = read(r, text[i]);
+    for c in text {
+        r = read(r, *c);
         n = put(r, out, n);
-        i += 1;
     }
     n
 }
@@ -139,11 +107,7 @@ pub fn bytes(text: &[u8], out: &mut [u8]) -> usize
 
 // Ten times n, and a decimal digit; the rest where it is too large for 64 bits.
 fn shifted(n: u64, c: u8) -> u64 {
-    let two = std::num::wrapping_add_u64(n, n);
-    let four = std::num::wrapping_add_u64(two, two);
-    let five = std::num::wrapping_add_u64(four, n);
-    let ten = std::num::wrapping_add_u64(five, five);
-    std::num::wrapping_add_u64(ten, (c % 16) as u64)
+    n.wrapping_mul(10).wrapping_add(u64::from(c % 16))
 }
 
 // The number after a byte, where so many spaces are left before it.
@@ -159,7 +123,7 @@ fn number_after(n: u64, left: usize, c: u8) -> u64 {
 // How many spaces are left before a number, after a byte.
 fn left_after(left: usize, c: u8) -> usize {
     if c == b' ' {
-        return std::num::wrapping_sub_usize(left, 1);
+        return left.wrapping_sub(1);
     }
     left
 }
@@ -168,12 +132,9 @@ fn left_after(left: usize, c: u8) -> usize {
 pub fn number(text: &[u8], k: usize) -> u64 {
     let mut left = k;
     let mut n: u64 = 0;
-    let mut i: usize = 0;
-    while i < text.len() {
-        let c = text[i];
-        n = number_after(n, left, c);
-        left = left_after(left, c);
-        i += 1;
+    for c in text {
+        n = number_after(n, left, *c);
+        left = left_after(left, *c);
     }
     n
 }
@@ -221,6 +182,7 @@ pub fn read_input(from: Stdin, buf: &mut [u8]) -> usize
     ensures { IsPrefixLen result buf.new }
 {
     let mut done: usize = 0;
+    // Kept: a turn is one read, which takes as many bytes as come: no range or iterator counts them.
     while done < buf.len() {
         let n = read_once(from, &mut buf[done..]);
         if n == 0 {

@@ -57,51 +57,27 @@ pub fn write_three(out: Stdout, a: u64, b: u64, c: u64) {
 
 // Writes each byte as a number, with a space before it.
 pub fn write_bytes(out: Stdout, bytes: &[u8]) {
-    let mut i: usize = 0;
-    while i < bytes.len() {
+    for b in bytes {
         write(out, b" ");
-        write_number(out, wide(bytes[i]));
-        i += 1;
+        write_number(out, wide(*b));
     }
 }
 
 // The sum of the bytes.
 pub fn sum(bytes: &[u8]) -> u64 {
-    let mut total: u64 = 0;
-    let mut i: usize = 0;
-    while i < bytes.len() {
-        total = std::num::wrapping_add_u64(total, wide(bytes[i]));
-        i += 1;
-    }
-    total
-}
-
-// 1 if two bytes are the same.
-fn one_if_same(a: u8, b: u8) -> u64 {
-    if a == b {
-        return 1;
-    }
-    0
+    bytes
+        .iter()
+        .fold(0, |total: u64, b| total.wrapping_add(wide(*b)))
 }
 
 // How many bytes are b.
 pub fn count(bytes: &[u8], b: u8) -> u64 {
-    let mut n: u64 = 0;
-    let mut i: usize = 0;
-    while i < bytes.len() {
-        n = std::num::wrapping_add_u64(n, one_if_same(bytes[i], b));
-        i += 1;
-    }
-    n
+    bytes.iter().filter(|x| **x == b).count() as u64
 }
 
 // Makes all bytes b.
 pub fn fill(bytes: &mut [u8], b: u8) {
-    let mut i: usize = 0;
-    while i < bytes.len() {
-        bytes[i] = b;
-        i += 1;
-    }
+    bytes.fill(b);
 }
 
 // Writes a byte; after a `%` it is a letter, and stands for one of the numbers: `a` for the first.
@@ -128,10 +104,8 @@ pub fn write_byte(out: Stdout, b: u8) {
 // Writes a text in which `%a` stands for the first of the numbers, `%b` for the second, and so on.
 pub fn write_filled(out: Stdout, text: &[u8], numbers: &[u64]) {
     let mut mark = false;
-    let mut i: usize = 0;
-    while i < text.len() {
-        write_part(out, mark, text[i], numbers);
-        mark = text[i] == b'%';
-        i += 1;
+    for b in text {
+        write_part(out, mark, *b, numbers);
+        mark = *b == b'%';
     }
 }

@@ -15,7 +15,7 @@ use trace::Record;
 mod counts;
 
 // Counts over accepted lines: lines, runs begun, finished and open, and lines whose verdict fails.
-#[derive(Clone, Copy)]
+#[derive(Clone, Copy, PartialEq, Eq)]
 pub struct Tally {
     pub lines: u32,
     pub begun: u32,

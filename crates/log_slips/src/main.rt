@@ -179,6 +179,7 @@ fn put_lines(file: &[u8], log: &[u8], text: &mut [u8]) -> usize
         size: 0,
         more: true,
     };
+    // Kept: no count, since each line says where the next begins and whether there is one.
     while w.more {
         w = step(file, log, w, text);
     }

@@ -15,6 +15,7 @@ use Rattle.labels.specs.declared.Label.{Label}
 use Rattle.labels.specs.Label.{label_of}
 use Rattle.labels.specs.Table.{number_of, with_label}
 use Rattle.labels.proofs.Table.{index_most}
+use Rattle.refusals.specs.Refusal.{number}
 use Rattle.lines.specs.Event.{Event, begins, ends}
 use Rattle.lines.specs.Line.{event_of}
 use Rattle.lines.specs.Log.{lines_of}
@@ -34,7 +35,7 @@ use Rattle.logic.proofs.Labelled.{begin_has_label, label_stays}
 use Rattle.accepted_logs.specs.MetAfter.{HasId, MetAfter}
 use Rattle.accepted_logs.specs.Spoken.{BegunAt, EndedAt, Spoken, Accepting}
 use Rattle.accepted_logs.proofs.NewLabel.{Grows, same, more, grows, one_more, no_length}
-use Rattle.accepted_logs.proofs.AfterMet.{after_met}
+use Rattle.accepted_logs.proofs.AfterMet.{after_met, after_number}
 
 -- ── what a taken line keeps of run k ──
 record Keeps (t u : Trace) (k : ℕ) : Type 0 where
@@ -335,7 +336,7 @@ grows_by : (log : List ℕ) (t : Trace) (line : List ℕ) → Accepted log t →
 grows_by log t line a free =
     by_answer_lem t line
     (λ u p. (u, taken_grows log t a line u p))
-    (λ c p. absurd (free c ((after_met log t a line c).0 p)))
+    (λ c p. absurd (free (number c) ((after_met log t a line c).0 p)))
 
 -- what a log with one line more leaves, whether the line has its LF or not
 read_one_more : (log : List ℕ) (t : Trace) (line : List ℕ) → Accepted log t → lines_of line ≡ line ∷ [] → read (log ++ line) ≡ step (next t) line
@@ -347,7 +348,8 @@ read_one_more log t line a one =
 stops_at : (log : List ℕ) (t : Trace) (line : List ℕ) (c : ℕ) → Accepted log t → lines_of line ≡ line ∷ []
     → MetAfter t line c → (u : Trace) → Accepted (log ++ line) u → ⊥
 stops_at log t line c a one m u g =
-    not_taken c u (sym ((after_met log t a line c).1 m) ∙ (sym (read_one_more log t line a one) ∙ g.leaves))
+    let w = (after_number log t a line c).1 m in
+    not_taken w.0 u (sym w.1.0 ∙ (sym (read_one_more log t line a one) ∙ g.leaves))
 
 pub accepting : Accepting
 accepting = record { accepts = grows_by; refuses = stops_at }

@@ -18,6 +18,8 @@ use Rattle.labels.proofs.Capitals.{capital_is}
 use Rattle.labels.proofs.Form.{label?, form_some}
 use Rattle.labels.proofs.Same.{text_of}
 use Rattle.labels.proofs.Table.{label_kept}
+use Rattle.refusals.specs.declared.Refusal.{Refusal}
+use Rattle.refusals.specs.Refusal.{number}
 use Rattle.lines.specs.Event.{Event, begins, ends, faulty}
 use Rattle.lines.specs.Line.{event_of}
 use Rattle.lines.specs.Log.{lines_of}
@@ -142,12 +144,12 @@ small_refused k s long ruled =
 
 -- ── the label that is written in a run's line ──
 -- of an accepted log no line is refused by its own bytes
-stays_refused : (ls : List (List ℕ)) (c : ℕ) (u : Trace) → steps (refused c) ls ≡ next u → ⊥
+stays_refused : (ls : List (List ℕ)) (c : Refusal) (u : Trace) → steps (refused c) ls ≡ next u → ⊥
 unfolding step apply_to
 stays_refused [] c u e = never (cc)
 stays_refused (l ∷ ls) c u e = stays_refused ls c u e
 
-not_faulty : (ls : List (List ℕ)) (a : Answer) (u : Trace) → steps a ls ≡ next u → (n : ℕ) → n < length ls → (c : ℕ) → event_of (get_or ls n []) ≡ faulty c → ⊥
+not_faulty : (ls : List (List ℕ)) (a : Answer) (u : Trace) → steps a ls ≡ next u → (n : ℕ) → n < length ls → (c : Refusal) → event_of (get_or ls n []) ≡ faulty c → ⊥
 unfolding step apply_to apply
 not_faulty [] a u e n h c f = omega arith
 not_faulty (l ∷ ls) (next t) u e zero h c f = stays_refused ls c u (ap (λ (v : Event). steps (apply_to (next t) v) ls) (sym f) ∙ e)

@@ -133,7 +133,7 @@ module _ (k : LogCall) (x : Rule) (taking : Taking k x) (mode : k.mode ≡ First
           let s = means.stops c n e in
           let f = s.first in
           let long : length ls ≡ length (lines_of f.before) + suc (length f.after) = ap length f.lines ∙ length-append (lines_of f.before) (f.line ∷ f.after) in
-          stopped-behind (lines_of f.before) f.line f.after no_trace f.trace c f.accepted.leaves s.why (length ls) t (omega arith)
+          stopped-behind (lines_of f.before) f.line f.after no_trace f.trace s.why.0 f.accepted.leaves s.why.1.0 (length ls) t (omega arith)
           (ap (λ (ms : List (List ℕ)). steps (next no_trace) (take (length ls) ms)) (sym f.lines) ∙ (ap (steps (next no_trace)) (take_all (length ls) ls (omega arith)) ∙ a.leaves))
 
   not_refused : (p : List ℕ) → EndsFailing k.file x k.log p → k.answer.ending ≡ Ending.Read

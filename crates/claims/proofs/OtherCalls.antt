@@ -1,4 +1,5 @@
 -- Demand 1 of the calls that take no line: starting a record, relating two runs, and sets of relations.
+use Rattle.std.specs.Prelude.{Some, Err}
 use Prim.Native.Nat.{ℕ, ◌≤◌, ◌<◌}
 use mathlib.Core.Path.{◌≡◌, refl, ap, sym, ◌∙◌, subst}
 use mathlib.Core.Logic.{◌⊎◌, inl, inr, ⊎_elim, ◌↔◌}
@@ -10,11 +11,13 @@ use lib.Dec.{eqb, ltb}
 use borrow.Author.Tests.{lt-ltb, le-ltb, le-leb, lt-leb}
 use Rattle.lists.specs.Lists.{has?}
 use Rattle.lists.proofs.Cases.{either_lt, either_bool, no_both}
+use Rattle.refusals.specs.declared.Refusal.TheVariants.{LineForm}
+use Rattle.refusals.specs.declared.Refusal.{Refusal}
+use Rattle.refusals.specs.Refusal.{number}
+use Rattle.lines.specs.declared.LineSays.{LineSays}
 use Rattle.lines.specs.Event.{Event, begins, ends, faulty}
 use Rattle.lines.specs.Line.{event_of, parsed_as, parsed_of}
 use Rattle.lines.specs.Log.{next_line}
-use Rattle.lines.specs.declared.Next.TheVariants as Next
-use Rattle.lines.specs.declared.Parsed.TheVariants as Parsed
 use Rattle.lines.proofs.Log.{refused_line_is_faulty, refused_without_lf, without_lf_refused}
 use Rattle.trace.specs.declared.Record.{Record}
 use Rattle.trace.specs.declared.RunNo.{RunNo}
@@ -194,25 +197,23 @@ pub converse_met : (a : ℕ) (v : Composed) → Conversed a v → (c : ℕ) → 
 converse_met a v h c = subst (λ (z : Composed). (z ≡ Composed.Refused c) ↔ ((63 < a) × (c ≡ 14))) (sym h.answer) (conversed_met a c)
 
 -- ── reading ──
-same_next : (c d : ℕ) → Next.Refused d ≡ Next.Refused c → d ≡ c
-same_next c d e = cc
-
-pub next_met : (log : List ℕ) (p c : ℕ) → (next_line log p ≡ Next.Refused c) ↔ ((p < length log) × (has? 10 (take 40 (drop p log)) ≡ false) × (c ≡ 11))
-next_met log p c = (forth, λ h. refused_without_lf log p h.0 h.1 ∙ ap Next.Refused (sym h.2))
+pub next_met : (log : List ℕ) (p c : ℕ) → ((e : Refusal) × ((next_line log p ≡ Some (Err e)) × (number e ≡ c)))
+    ↔ ((p < length log) × (has? 10 (take 40 (drop p log)) ≡ false) × (c ≡ 11))
+next_met log p c = (forth, λ h. (LineForm, (refused_without_lf log p h.0 h.1, sym h.2)))
   where
-    forth : next_line log p ≡ Next.Refused c → (p < length log) × (has? 10 (take 40 (drop p log)) ≡ false) × (c ≡ 11)
-    forth e =
-        let n : c ≡ 11 = (refused_line_is_faulty log p c e).number in
-        let h = without_lf_refused log p (e ∙ ap Next.Refused n) in
-        (h.0, h.1, n)
+    forth : (e : Refusal) × ((next_line log p ≡ Some (Err e)) × (number e ≡ c)) → (p < length log) × (has? 10 (take 40 (drop p log)) ≡ false) × (c ≡ 11)
+    forth w =
+        let n : w.0 ≡ LineForm = (refused_line_is_faulty log p w.0 w.1.0).refusal in
+        let h = without_lf_refused log p (w.1.0 ∙ ap (λ (e : Refusal). Some (Err e)) n) in
+        (h.0, h.1, sym w.1.1 ∙ ap number n)
 
-same_parsed : (c d : ℕ) → Parsed.Refused d ≡ Parsed.Refused c → d ≡ c
+same_parsed : (c d : Refusal) → ◌≡◌ {A = Result LineSays Refusal} (Err d) (Err c) → d ≡ c
 same_parsed c d e = cc
 
-pub parse_met : (line : List ℕ) (c : ℕ) → (parsed_of line ≡ Parsed.Refused c) ↔ (event_of line ≡ faulty c)
+pub parse_met : (line : List ℕ) (c : Refusal) → (parsed_of line ≡ Err c) ↔ (event_of line ≡ faulty c)
 parse_met line c = (λ e. forth (event_of line) refl e, λ e. ap (parsed_as (length line)) e)
   where
-    forth : (v : Event) → event_of line ≡ v → parsed_as (length line) v ≡ Parsed.Refused c → event_of line ≡ faulty c
+    forth : (v : Event) → event_of line ≡ v → parsed_as (length line) v ≡ Err c → event_of line ≡ faulty c
     forth (begins i l) q e = absurd (let z : ◌≡◌ {A = ℕ} 0 1 = cc in omega arith)
     forth (ends i) q e = absurd (let z : ◌≡◌ {A = ℕ} 0 1 = cc in omega arith)
     forth (faulty d) q e = q ∙ ap faulty (same_parsed c d e)

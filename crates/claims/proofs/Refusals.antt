@@ -10,10 +10,9 @@ use lib.Dec.{ltb}
 use lib.ListN.{length}
 use borrow.Author.Tests.{lt-ltb, le-ltb}
 use Rattle.lists.proofs.Cases.{either_lt, either_bool}
+use Rattle.refusals.specs.Refusal.{number, RefusedWith}
 use Rattle.lines.specs.Line.{parsed_of}
-use Rattle.lines.specs.Log.{lines_of, place_after}
-use Rattle.lines.specs.declared.Next.{Next}
-use Rattle.lines.specs.declared.Parsed.TheVariants as Parsed
+use Rattle.lines.specs.Log.{lines_of, place_after, Next}
 use Rattle.lines.proofs.Event.{event_refusal}
 use Rattle.trace.specs.declared.Record.{Record}
 use Rattle.trace.specs.Trace.{Trace, Answer, next, refused, no_trace, step}
@@ -30,7 +29,7 @@ use Rattle.rules.specs.Rules.{rule_of, formula_of, ReadsRule}
 use Rattle.rules.proofs.Rules.{reads_rule}
 use Rattle.grammar.specs.MetBytes.{MetBytes}
 use Rattle.grammar.specs.MetRule.{MetRule}
-use Rattle.grammar.proofs.BytesMet.{faulty-says}
+use Rattle.grammar.proofs.BytesMet.{faulty-number}
 use Rattle.grammar.proofs.RuleMet.{rule_met}
 use Rattle.logic.specs.Verdict.{verdict_of}
 use Rattle.single.specs.declared.Outcome.TheVariants.{Refused}
@@ -80,7 +79,7 @@ module _ (lay : Layout) (r : Record) (w : List ℕ) where
       go : (a : Answer) → step (next t) line ≡ a → LineKept (line_after lay file x t w a)
       go (next u) q c e = not_judged (verdict_of u (formula_of file x)) c e
       go (refused d) q c e =
-          let f = same_refusal c d e in
+          let f = same_refusal c (number d) e in
           let l = line_number t line d q in
           (omega arith, (λ i. (refusing (sym s i) (f i), w)))
 
@@ -115,7 +114,7 @@ module _ (lay : Layout) (r : Record) (y : Tally) (w : List ℕ) where
       go : (a : Answer) → step (next t) line ≡ a → TallyKept (tallied_after lay file x t y w a)
       go (next u) q c e = not_judged (verdict_of u (formula_of file x)) c e
       go (refused d) q c e =
-          let f = same_refusal c d e in
+          let f = same_refusal c (number d) e in
           let l = line_number t line d q in
           (omega arith, (λ i. (refusing_with (sym s i) y (f i), w)))
 
@@ -177,8 +176,8 @@ log_of_kept lay file log w out c n e =
         let k : log_of lay file b w out ≡ (ended g.trace Ending.Read, work_of lay g.trace w, g.out') =
         read_first b x r s ∙ (ap (λ (z : List (List ℕ)). lines_from lay file x no_trace z w out) (start_lines lay file x w (lines_of log) out c n g) ∙ g.kept) in
         let z = q ∙ g.answer in
-        let l = line_number g.trace g.line c g.why in (
-          omega arith,
+        let l = line_number g.trace g.line g.why.0 g.why.1.0 in (
+          omega (arith, g.why.1.1),
           at_line (first_refused lay file x w log out c n g) (ap (λ (y : End). y.0) z)
               (k ∙ (λ i. (ended g.trace Ending.Read, sym (ap (λ (y : End). y.1) z) i, sym (ap (λ (y : End). y.2) z) i))),
         )
@@ -218,8 +217,11 @@ relate-listed r a b c (relate_same log t k s f q e) = omega arith
 pub lent_nothing : {A M : Type 0} (c : ℕ) → (A ↔ M) → (M → Listed c) → Refuses c A M (Unit {0})
 lent_nothing c m l = record { listed = λ e. l (m.0 e); just_where = m; changes_nothing = λ _. tt }
 
-bytes_met : (line : List ℕ) (c : ℕ) → (parsed_of line ≡ Parsed.Refused c) ↔ MetBytes line c
-bytes_met line c = (λ e. (faulty-says line c).0 ((parse_met line c).0 e), λ m. (parse_met line c).1 ((faulty-says line c).1 m))
+bytes_met : (line : List ℕ) (c : ℕ) → RefusedWith c (parsed_of line) ↔ MetBytes line c
+bytes_met line c = (
+  λ w. (faulty-number line c).0 (w.0, ((parse_met line w.0).0 w.1.0, w.1.1)),
+  λ m. let z = (faulty-number line c).1 m in (z.0, ((parse_met line z.0).1 z.1.0, z.1.1)),
+)
 
 file_met : (file : List ℕ) (q : Result Rule Refusal) → ReadsRule file q → (c : ℕ) → RefusedWith c q ↔ MetRule file c
 file_met file q h c =
@@ -245,7 +247,7 @@ demand-1 =
       compose = λ a b v h c. lent_nothing c (compose_met a b v h c) (λ m. omega (arith, m.1));
       converse = λ a v h c. lent_nothing c (converse_met a v h c) (λ m. omega (arith, m.1));
       rule = λ file q h c. lent_nothing c (file_met file q h c) (met_number file c);
-      parse = λ line c. lent_nothing c (bytes_met line c) (λ m. let r = event_refusal line c ((faulty-says line c).1 m) in omega arith);
-      next = λ log p c. record { listed = λ e. omega (arith, ((next_met log p c).0 e).2); just_where = next_met log p c; changes_nothing = λ e. ap (λ (n : Next). place_after n p) e };
+      parse = λ line c. lent_nothing c (bytes_met line c) (λ m. let z = (faulty-number line c).1 m in let r = event_refusal line z.0 z.1.0 in omega (arith, z.1.1));
+      next = λ log p c. record { listed = λ e. omega (arith, ((next_met log p c).0 e).2); just_where = next_met log p c; changes_nothing = λ e. ap (λ (n : Next). place_after n p) e.1.0 };
       untouched = untouched_bytes;
     }

@@ -4,6 +4,7 @@ use mathlib.Core.Path.{◌≡◌, refl, ap, sym, ◌∙◌}
 use mathlib.Core.List.{List, [], ◌∷◌, ◌++◌}
 use native.Mathlib.Omega.{arith}
 use lib.ListN.{length, set}
+use Rattle.refusals.specs.Refusal.{number}
 use Rattle.lines.specs.Log.{lines_of, flat}
 use Rattle.trace.specs.Trace.{Trace, Answer, next, refused, no_trace, step, steps, Accepted}
 use Rattle.trace.proofs.Taken.{line_lines}
@@ -18,7 +19,7 @@ use Rattle.single.specs.declared.Outcome.TheVariants.{Refused}
 use Rattle.reading.specs.declared.Ending.TheVariants as Ending
 use Rattle.reading.specs.declared.LogRead.{LogRead}
 use Rattle.single.specs.Line.{judged}
-use Rattle.reading.specs.Reading.{ended}
+use Rattle.reading.specs.Reading.{ended, RefusedAs}
 use Rattle.whole_log.specs.Log.{lines_from, LineAt}
 use Rattle.whole_log.proofs.Lines.{from_none, from-taken, from_refused}
 use Rattle.reading.proofs.Lines.{lines_accepted, taken_lines}
@@ -53,7 +54,7 @@ module _ (lay : Layout) (file : List ℕ) (x : Rule) (w : List ℕ) where
     pub leaves : steps (next t) before ≡ next trace
     pub counted : trace.lines ≡ t.lines + length before
     pub at : n ≡ trace.lines + 1
-    pub why : step (next trace) line ≡ refused c
+    pub why : RefusedAs c (step (next trace) line)
     pub kept : lines_from lay file x t before w out ≡ (ended trace Ending.Read, work_of lay trace w, out')
     pub answer : lines_from lay file x t ls w out ≡ (ended trace (Ending.Refused c n), work_of lay trace w, out')
 
@@ -87,7 +88,7 @@ module _ (lay : Layout) (file : List ℕ) (x : Rule) (w : List ℕ) where
           }
       go (refused d) q rest =
           let f = from_refused lay file x t l ls w out d q in
-          let p = same_ending c d n (t.lines + 1) (sym (ap (λ (a : End). a.0.ending) f) ∙ e) in
+          let p = same_ending c (number d) n (t.lines + 1) (sym (ap (λ (a : End). a.0.ending) f) ∙ e) in
           record {
             before = [];
             line = l;
@@ -98,7 +99,7 @@ module _ (lay : Layout) (file : List ℕ) (x : Rule) (w : List ℕ) where
             leaves = refl;
             counted = omega arith;
             at = sym p.1;
-            why = q ∙ ap refused p.0;
+            why = (d, (q, p.0));
             kept = from_none lay file x t w out;
             answer = f ∙ (λ i. (ended t (Ending.Refused (p.0 i) (p.1 i)), work_of lay t w, out));
           }

@@ -10,6 +10,7 @@ use lib.Dec.{eqb, leb, ltb}
 use lib.ListN.{length}
 use borrow.Author.Tests.{lt-ltb, le-ltb, eqb-true, eq-eqb, leb-true, le-leb}
 use Rattle.lists.proofs.Cases.{either_lt, either_bool, no_both, and_left, and_right}
+use Rattle.refusals.specs.Refusal.{number}
 use Rattle.lines.specs.Log.{lines_of}
 use Rattle.trace.specs.declared.Record.{Record}
 use Rattle.trace.specs.Trace.{Trace, Answer, next, refused, no_trace, read, steps, step}
@@ -29,6 +30,7 @@ use Rattle.reading.specs.declared.Ending.TheVariants as Ending
 use Rattle.tallies.specs.declared.Tally.{Tally}
 use Rattle.tallies.specs.declared.Tallied.{Tallied}
 use Rattle.reading.specs.declared.LogRead.{LogRead}
+use Rattle.reading.specs.Reading.{RefusedAs}
 use Rattle.reading.specs.Left.{Left}
 use Rattle.single.specs.Line.{refusing, line_after, advance_of, state_of, with_rule, line_of, ChecksLine}
 use Rattle.tallies.specs.Tally.{refusing_with, counts?, tallied_after, tallied_state, tallied_of, ChecksTallied}
@@ -40,7 +42,7 @@ use Rattle.reading.proofs.Lines.{same_trace, after_line_lem, no_line}
 use Rattle.accepted_logs.specs.MetAfter.{MetAfter}
 use Rattle.claims.specs.WhereMet.{Met, Counts, MetTally, wrong, right, MetLog, short_work, short_verdicts, log-rule, log_line}
 use Rattle.claims.proofs.Stops.{same_refusal, not_judged, End, same_ending, Stopped, stops, start_of, start_accepted, first_refused}
-use Rattle.accepted_logs.proofs.AfterMet.{after_met}
+use Rattle.accepted_logs.proofs.AfterMet.{after_number}
 use Rattle.claims.proofs.Fronts.{taken_ruled, ruled_taken, handed, answer_by, front_met}
 
 -- ── one line ──
@@ -56,11 +58,11 @@ module _ (lay : Layout) (file : List ℕ) (r : Record) (w line : List ℕ) where
 
   advance_met : (x : Rule) (log : List ℕ) (t : Trace) → Left lay log t r w → (c : ℕ) → ((advance_of lay file x t w line).0.outcome ≡ Refused c) ↔ MetAfter t line c
   unfolding line_after
-  advance_met x log t l c = (λ e. go (step (next t) line) refl e, λ m. ap (λ (a : Answer). (line_after lay file x t w a).0.outcome) ((after_met log t l.accepted line c).1 m))
+  advance_met x log t l c = (λ e. go (step (next t) line) refl e, λ m. let z = (after_number log t l.accepted line c).1 m in ap (λ (a : Answer). (line_after lay file x t w a).0.outcome) z.1.0 ∙ ap Refused z.1.1)
     where
       go : (a : Answer) → step (next t) line ≡ a → (line_after lay file x t w a).0.outcome ≡ Refused c → MetAfter t line c
       go (next u) q e = not_judged (verdict_of u (formula_of file x)) c e
-      go (refused d) q e = (after_met log t l.accepted line c).0 (q ∙ ap refused (same_refusal c d e))
+      go (refused d) q e = (after_number log t l.accepted line c).0 (d, (q, same_refusal c (number d) e))
 
 pub line_met : (lay : Layout) (file : List ℕ) (r : Record) (w line : List ℕ) (a : Checked) (w' : List ℕ) → ChecksLine lay file r w line a w'
     → (c : ℕ) → (a.outcome ≡ Refused c) ↔ Met lay file r w (λ t n. MetAfter t line n) c
@@ -140,7 +142,7 @@ module _ (lay : Layout) (file : List ℕ) (r : Record) (y : Tally) (w line : Lis
       go b (next u) q e = not_judged (verdict_of u (formula_of file x)) c (sym (of_right x t b (next u) q) ∙ e)
       go b (refused d) q e =
           right ((counts-says t y).0 b)
-          ((after_met log t l.accepted line c).0 (q ∙ ap refused (same_refusal c d (sym (of_right x t b (refused d) q) ∙ e))))
+          ((after_number log t l.accepted line c).0 (d, (q, same_refusal c (number d) (sym (of_right x t b (refused d) q) ∙ e))))
 
       forth : (tallied_state lay file x r y w line (some t)).0.outcome ≡ Refused c → MetTally y line t c
       forth e =
@@ -153,7 +155,9 @@ module _ (lay : Layout) (file : List ℕ) (r : Record) (y : Tally) (w line : Lis
           either_bool (counts? t y)
           (λ b. absurd (n ((counts-says t y).0 b)))
           (λ b. of_wrong x t b ∙ ap Refused (sym e))
-      back (right k m) = of_right x t ((counts-says t y).1 k) (refused c) ((after_met log t l.accepted line c).1 m)
+      back (right k m) =
+          let z = (after_number log t l.accepted line c).1 m in
+          of_right x t ((counts-says t y).1 k) (refused z.0) z.1.0 ∙ ap Refused z.1.1
 
 pub tallied_met : (lay : Layout) (file : List ℕ) (r : Record) (y : Tally) (w line : List ℕ) (a : Tallied) (w' : List ℕ) → ChecksTallied lay file r y w line a w'
     → (c : ℕ) → (a.outcome ≡ Refused c) ↔ Met lay file r w (MetTally y line) c
@@ -163,14 +167,14 @@ tallied_met lay file r y w line a w' h c =
     (front_met lay file r w (λ n. (refusing_with r y n, w)) (λ x t. tallied_state lay file x r y w line (some t)) (λ z. z.0.outcome) (λ n. refl) (MetTally y line) (tally_met lay file r y w line) c k.0 k.1)
 
 -- ── a whole log ──
-module _ (lay : Layout) (file : List ℕ) (x : Rule) (w : List ℕ) (line : List ℕ) (after : List (List ℕ)) (t : Trace) (c : ℕ) (e : step (next t) line ≡ refused c) where
+module _ (lay : Layout) (file : List ℕ) (x : Rule) (w : List ℕ) (line : List ℕ) (after : List (List ℕ)) (t : Trace) (c : ℕ) (e : RefusedAs c (step (next t) line)) where
   -- the lines from s on stop at the line that is refused
   from-stop : (before : List (List ℕ)) (s : Trace) (out : List ℕ) (n : ℕ) → steps (next s) before ≡ next t → n ≡ s.lines + length before + 1
       → (lines_from lay file x s (before ++ (line ∷ after)) w out).0.ending ≡ Ending.Refused c n
   from-stop [] s out n p m =
-      let q : step (next s) line ≡ refused c = ap (λ (z : Trace). step (next z) line) (same_trace s t p) ∙ e in
+      let q : step (next s) line ≡ refused e.0 = ap (λ (z : Trace). step (next z) line) (same_trace s t p) ∙ e.1.0 in
       let k : s.lines + 1 ≡ n = omega (arith, m) in
-      ap (λ (a : End). a.0.ending) (from_refused lay file x s line after w out c q) ∙ ap (Ending.Refused c) k
+      ap (λ (a : End). a.0.ending) (from_refused lay file x s line after w out e.0 q) ∙ (λ i. Ending.Refused (e.1.1 i) (k i))
   from-stop (l ∷ ls) s out n p m =
       by_answer_lem s l
       (λ u q.
@@ -220,7 +224,7 @@ log_of_met lay file log w out c n = (forth, back)
     reading s v (Ok x) q e =
         let g : Stopped lay file x w no_trace (lines_of log) out c n = stops lay file x w (lines_of log) no_trace out c n (sym (rule s v _ q) ∙ e) in
         log_line s v (taken_ruled file x q) (first_refused lay file x w log out c n g)
-        ((after_met (start_of lay file x w (lines_of log) out c n g) g.trace (start_accepted lay file x w (lines_of log) out c n g) g.line c).0 g.why)
+        ((after_number (start_of lay file x w (lines_of log) out c n g) g.trace (start_accepted lay file x w (lines_of log) out c n g) g.line c).0 g.why)
 
     forth : (log_of lay file log w out).0.ending ≡ Ending.Refused c n → MetLog lay file log w out c n
     forth e =
@@ -242,7 +246,7 @@ log_of_met lay file log w out c n = (forth, back)
         let x = z.0 in
         rule s v _ z.1
         ∙ (ap (λ (z : List (List ℕ)). (lines_from lay file x no_trace z w out).0.ending) f.lines
-        ∙ from-stop lay file x w f.line f.after f.trace c ((after_met f.before f.trace f.accepted f.line c).1 m) (lines_of f.before) no_trace out n f.accepted.leaves (omega (arith, f.number)))
+        ∙ from-stop lay file x w f.line f.after f.trace c ((after_number f.before f.trace f.accepted f.line c).1 m) (lines_of f.before) no_trace out n f.accepted.leaves (omega (arith, f.number)))
 
 pub log_met : (lay : Layout) (file log w out : List ℕ) (a : LogRead) (w' out' : List ℕ) → ChecksLog lay file log w out a w' out'
     → (c n : ℕ) → (a.ending ≡ Ending.Refused c n) ↔ MetLog lay file log w out c n

@@ -1,10 +1,10 @@
 -- Demand 1: where each call refuses, and what it leaves then; and that no call writes past what it is stated to write.
-use Rattle.std.specs.Prelude.{ℕ, ◌≤◌, ◌<◌, ◌≡◌, ◌⊎◌, ◌↔◌, false, List, length, take, drop}
+use Rattle.std.specs.Prelude.{ℕ, ◌≤◌, ◌<◌, ◌≡◌, ◌⊎◌, ◌↔◌, false, List, length, take, drop, Some, Err}
 use Rattle.lists.specs.Lists.{has?}
+use Rattle.refusals.specs.declared.Refusal.{Refusal}
+use Rattle.refusals.specs.Refusal.{number, RefusedWith}
 use Rattle.lines.specs.Line.{line_limit, parsed_of}
 use Rattle.lines.specs.Log.{next_line, advanced_from}
-use Rattle.lines.specs.declared.Next.TheVariants as Next
-use Rattle.lines.specs.declared.Parsed.TheVariants as Parsed
 use Rattle.trace.specs.declared.Record.{Record}
 use Rattle.trace.specs.declared.RunNo.{RunNo}
 use Rattle.pairs.specs.Layout.{work_size}
@@ -83,9 +83,9 @@ pub record Demand1 : Type 0 where
   -- reading: a rule file, one line, the next line of a log
   pub rule : (file : List ℕ) (q : Result Rule Refusal) → ReadsRule file q → (c : ℕ)
       → Refuses c (RefusedWith c q) (MetRule file c) (Unit {0})
-  pub parse : (line : List ℕ) (c : ℕ) → Refuses c (parsed_of line ≡ Parsed.Refused c) (MetBytes line c) (Unit {0})
+  pub parse : (line : List ℕ) (c : ℕ) → Refuses c (RefusedWith c (parsed_of line)) (MetBytes line c) (Unit {0})
   pub next : (log : List ℕ) (p c : ℕ)
-      → Refuses c (next_line log p ≡ Next.Refused c)
+      → Refuses c ((e : Refusal) × ((next_line log p ≡ Some (Err e)) × (number e ≡ c)))
       ((p < length log) × (has? 10 (take line_limit (drop p log)) ≡ false) × (c ≡ 11)) ((advanced_from log p).place ≡ p)
   -- "no call changes a byte past those it is stated to write; work bytes past 16,384 never change", here those past the
   -- size of the layout named; of typed rules it is said in `Reading` and `Writing`

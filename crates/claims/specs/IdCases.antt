@@ -2,6 +2,7 @@
 use Rattle.std.specs.Prelude.{ℕ, zero, suc, ◌≡◌, List, [], ◌∷◌, ◌++◌}
 use Rattle.lists.specs.Lists.{bytes}
 use Rattle.labels.specs.Label.{label_no}
+use Rattle.refusals.specs.declared.Refusal.TheVariants.{StillOpen, NeverBegun, NoneOpen, TooManyRuns}
 use Rattle.trace.specs.declared.Run.{Run}
 use Rattle.trace.specs.Trace.{Trace, Answer, next, refused, line, read}
 use Rattle.pairs.specs.declared.Layout.{Layout}
@@ -29,15 +30,15 @@ pub record IdCases : Type 0 where
   pub closes_own : read (bytes "B 1\nB 2\nE 1\nB 1\nE 2\nE 1\n")
       ≡ leaves_runs (bare_run 1 1 3 ∷ bare_run 2 2 5 ∷ bare_run 1 4 6 ∷ []) 6
   -- "15 only while the id's run is open"; and there is room for 128 runs in all, of one id too
-  pub open_once : read (bytes "B 1\nB 1\n") ≡ refused 15
-  pub open_again : read (bytes "B 1\nE 1\nB 1\nB 1\n") ≡ refused 15
+  pub open_once : read (bytes "B 1\nB 1\n") ≡ refused StillOpen
+  pub open_again : read (bytes "B 1\nE 1\nB 1\nB 1\n") ≡ refused StillOpen
   pub room : (u : Trace) × (read (in_turn 128) ≡ next u)
-  pub no_room : read (in_turn 128 ++ bytes "B 1\n") ≡ refused 18
+  pub no_room : read (in_turn 128 ++ bytes "B 1\n") ≡ refused TooManyRuns
   -- "17 if the id has begun and none is open; 16 as before"
-  pub ended : read (bytes "B 1\nE 1\nE 1\n") ≡ refused 17
-  pub ended-again : read (bytes "B 1\nE 1\nB 1\nE 1\nE 1\n") ≡ refused 17
-  pub ended-beside : read (bytes "B 1\nB 2\nE 1\nE 1\n") ≡ refused 17
-  pub never_begun : read (bytes "B 1\nE 1\nE 2\n") ≡ refused 16
+  pub ended : read (bytes "B 1\nE 1\nE 1\n") ≡ refused NoneOpen
+  pub ended-again : read (bytes "B 1\nE 1\nB 1\nE 1\nE 1\n") ≡ refused NoneOpen
+  pub ended-beside : read (bytes "B 1\nB 2\nE 1\nE 1\n") ≡ refused NoneOpen
+  pub never_begun : read (bytes "B 1\nE 1\nE 2\n") ≡ refused NeverBegun
   -- "the pair relations are now about run numbers": two runs of one id, of which the first is before the second
   pub noted : (lay : Layout) (w out : List ℕ) → Long lay w out → first_pair lay (bytes "B 1\nE 1\nB 1\nE 1\n") w out ≡ 5
   -- and so is a rule. In the first log the EVENING of id 1 is over before the TEST of id 1 begins; in the second the

@@ -3,6 +3,7 @@ use Rattle.std.specs.Prelude.{ℕ, ◌≡◌, List, [], ◌∷◌, ◌++◌}
 use Rattle.lists.specs.Lists.{bytes}
 use Rattle.labels.specs.Label.{capital, label_no, label_of}
 use Rattle.labels.specs.Table.{first_place}
+use Rattle.refusals.specs.declared.Refusal.TheVariants.{LineForm, LineLabel}
 use Rattle.trace.specs.declared.Run.{Run}
 use Rattle.trace.specs.Trace.{Answer, next, refused, line, read}
 use Rattle.std.specs.Prelude.{Ok, Err}
@@ -50,10 +51,10 @@ pub record LetterCases : Type 0 where
       ≡ leaves_label (labelled_run 1 1 2 ∷ labelled_run 2 3 0 ∷ labelled_run 3 4 0 ∷ []) (bytes "TEST") 4
   pub others_stay : read (bytes "B 1 a_0z\n") ≡ leaves_label (labelled_run 1 1 0 ∷ []) (bytes "A_0Z") 1
   -- "13 no longer meet lower-case letters", but the bytes beside them; B and E stay as they are
-  pub beside : (read (bytes "B 1 `\n") ≡ refused 13) × (read (bytes "B 1 {\n") ≡ refused 13)
-      × (read (bytes "B 1 @\n") ≡ refused 13) × (read (bytes "B 1 [\n") ≡ refused 13)
-  pub small_b : read (bytes "b 1 TEST\n") ≡ refused 11
-  pub small_e : read (bytes "B 1\ne 1\n") ≡ refused 11
+  pub beside : (read (bytes "B 1 `\n") ≡ refused LineLabel) × (read (bytes "B 1 {\n") ≡ refused LineLabel)
+      × (read (bytes "B 1 @\n") ≡ refused LineLabel) × (read (bytes "B 1 [\n") ≡ refused LineLabel)
+  pub small_b : read (bytes "b 1 TEST\n") ≡ refused LineForm
+  pub small_e : read (bytes "B 1\ne 1\n") ≡ refused LineForm
   -- P1 with its labels in other cases, in the log and in the rule file
   pub p1-log : report_text p1_file (bytes "B 7 evening\nB 9 Test\nE 9\nE 7\n")
       ≡ bytes "1 H\n2 H\n3 H\n4 F\nT 4 2 2 0 1\n"

@@ -15,6 +15,10 @@ use Rattle.lists.specs.Lists.{none?, all?, has?, up_to, past}
 use Rattle.lists.proofs.Cases.{either_bool, no_both, never, and_left, and_right}
 use Rattle.lists.proofs.Lists.{append-nil, Free, free_more, has_seam, has_none, up_seam, past_seam}
 use Rattle.labels.specs.Label.{digit?, capital, capitals, label_form?}
+use Rattle.refusals.specs.declared.Refusal.TheVariants.{LineForm, LineId, LineLabel}
+use Rattle.refusals.specs.declared.Refusal.{Refusal}
+use Rattle.refusals.specs.Refusal.{number}
+use Rattle.refusals.proofs.Numbers.{number-injective}
 use Rattle.lines.specs.Event.{Event, begins, ends, faulty}
 use Rattle.lines.specs.Line.{id_form?, id_range?, value, value_from, end_event, plain_event, label_event, begin_event, body_event, event_of}
 use Rattle.lines.specs.Render.{label_part}
@@ -130,10 +134,10 @@ unfolding event_of
 line_says a f h = simp (has_seam 10 a [], past_seam 10 a [] f, up_seam 10 a [] f, le-leb (length (a ++ (10 ∷ []))) 40 h)
 
 begin_answer : List ℕ → List ℕ → Event
-begin_answer ds s = cond (id_range? ds) (cond (none? s || label_form? (capitals s)) (begins (value ds) (capitals s)) (faulty 13)) (faulty 12)
+begin_answer ds s = cond (id_range? ds) (cond (none? s || label_form? (capitals s)) (begins (value ds) (capitals s)) (faulty LineLabel)) (faulty LineId)
 
 end_answer : List ℕ → Event
-end_answer ds = cond (id_range? ds) (ends (value ds)) (faulty 12)
+end_answer ds = cond (id_range? ds) (ends (value ds)) (faulty LineId)
 
 module _ (ds : List ℕ) (w : IdForm ds) where
   no_space : Free 32 ds
@@ -163,24 +167,24 @@ module _ (ds : List ℕ) (w : IdForm ds) where
         let f : Free 10 a = ((λ e. omega arith), ((λ e. omega arith), no_lf)) in
         ap event_of e ∙ (line_says a f (omega (arith, ap length e)) ∙ simp (id_test ds w))
 
-never-11 : (l ds s : List ℕ) → Formed l ds s → event_of l ≡ faulty 11 → ⊥
+never-11 : (l ds s : List ℕ) → Formed l ds s → event_of l ≡ faulty LineForm → ⊥
 unfolding begin_answer end_answer
 never-11 l ds s (as_begin b w short) e = go (id_range? ds) (none? s || label_form? (capitals s)) (sym (begin_answers ds w l short s b) ∙ e)
   where
-    go : (x y : Bool) → cond x (cond y (begins (value ds) (capitals s)) (faulty 13)) (faulty 12) ≡ faulty 11 → ⊥
+    go : (x y : Bool) → cond x (cond y (begins (value ds) (capitals s)) (faulty LineLabel)) (faulty LineId) ≡ faulty LineForm → ⊥
     go true true e = never (cc)
-    go true false e = let z : ◌≡◌ {A = ℕ} 13 11 = cc in omega arith
-    go false y e = let z : ◌≡◌ {A = ℕ} 12 11 = cc in omega arith
+    go true false e = let z : ◌≡◌ {A = ℕ} 0 1 = cc in omega arith
+    go false y e = let z : ◌≡◌ {A = ℕ} 0 1 = cc in omega arith
 never-11 l ds s (as_end f n w short) e = go (id_range? ds) (sym (end_answers ds w l short f) ∙ e)
   where
-    go : (x : Bool) → cond x (ends (value ds)) (faulty 12) ≡ faulty 11 → ⊥
+    go : (x : Bool) → cond x (ends (value ds)) (faulty LineId) ≡ faulty LineForm → ⊥
     go true e = never (cc)
-    go false e = let z : ◌≡◌ {A = ℕ} 12 11 = cc in omega arith
+    go false e = let z : ◌≡◌ {A = ℕ} 0 1 = cc in omega arith
 
 -- ── every line is of a form, or 11 is answered of it ──
 data Kind (l : List ℕ) : Type 0 where
   formed : (ds s : List ℕ) → Formed l ds s → Kind l
-  formless : event_of l ≡ faulty 11 → Kind l
+  formless : event_of l ≡ faulty LineForm → Kind l
 
 module _ (l : List ℕ) (short : length l ≤ 40) where
   end_kind : (ds : List ℕ) → EndForm l ds → event_of l ≡ end_event ds → Kind l
@@ -245,7 +249,7 @@ kind l =
 abbrev Says : List ℕ → Event → Type 0
 Says l (begins i s) = Begins l i s
 Says l (ends i) = Ends l i
-Says l (faulty c) = MetBytes l c
+Says l (faulty c) = MetBytes l (number c)
 
 module _ (l : List ℕ) where
   says_cond : (b : Bool) (x y : Event) → (b ≡ true → Says l x) → (b ≡ false → Says l y) → Says l (cond b x y)
@@ -256,7 +260,7 @@ module _ (l : List ℕ) where
   out_of_range ds s f e = no_range ds s f (λ r. no_both (sym (range_test ds r) ∙ e)) refl
 
   label_says : (ds s : List ℕ) → BeginForm l ds s → IdForm ds → length l ≤ 40 → IdRange ds
-      → Says l (cond (none? s || label_form? (capitals s)) (begins (value ds) (capitals s)) (faulty 13))
+      → Says l (cond (none? s || label_form? (capitals s)) (begins (value ds) (capitals s)) (faulty LineLabel))
   label_says ds [] b w short r = record { digits = ds; written = []; form = b; id = w; range = r; is = refl; capital = refl; label = λ n. absurd (n refl) }
   label_says ds (x ∷ s) b w short r =
       says_cond (label_form? (capitals (x ∷ s))) _ _
@@ -302,12 +306,12 @@ module _ (l : List ℕ) where
       let ds = b.digits in
       omega (arith, ap length b.form, length-append (69 ∷ 32 ∷ ds) (10 ∷ []), id_few ds b.id b.range)
 
-  is-12 : (ds s : List ℕ) → Formed l ds s → (IdRange ds → ⊥) → event_of l ≡ faulty 12
+  is-12 : (ds s : List ℕ) → Formed l ds s → (IdRange ds → ⊥) → event_of l ≡ faulty LineId
   unfolding begin_answer end_answer
   is-12 ds s (as_begin b w short) n = begin_answers ds w l short s b ∙ simp (no_range_test ds n)
   is-12 ds s (as_end f e w short) n = end_answers ds w l short f ∙ simp (no_range_test ds n)
 
-  is-13 : (ds s : List ℕ) → Formed l ds s → IdRange ds → 1 ≤ length s → WrongLabel (capitals s) → event_of l ≡ faulty 13
+  is-13 : (ds s : List ℕ) → Formed l ds s → IdRange ds → 1 ≤ length s → WrongLabel (capitals s) → event_of l ≡ faulty LineLabel
   unfolding begin_answer
   is-13 ds s (as_begin b w short) r some wrong = begin_answers ds w l short s b ∙ simp (range_test ds r, wrong_test s some wrong)
   is-13 ds s (as_end f e w short) r some wrong = absurd (omega (arith, ap length e))
@@ -319,13 +323,13 @@ module _ (l : List ℕ) where
       ∙ simp (range_test b.digits b.range, label_test b.written (labelled i s b)) (ap₂ begins b.is b.capital)
   says_event (ends i) b =
       end_answers b.digits b.id l (ends-short i b) b.form ∙ simp (range_test b.digits b.range) (ap ends b.is)
-  says_event (faulty c) (no_form n e) = go (kind l) ∙ ap faulty (sym e)
+  says_event (faulty c) (no_form n e) = go (kind l) ∙ ap faulty (sym (number-injective _ _ e))
     where
-      go : Kind l → event_of l ≡ faulty 11
+      go : Kind l → event_of l ≡ faulty LineForm
       go (formed ds s f) = absurd (n ds s f)
       go (formless q) = q
-  says_event (faulty c) (no_range ds s f n e) = is-12 ds s f n ∙ ap faulty (sym e)
-  says_event (faulty c) (no_label ds s f r some wrong e) = is-13 ds s f r some wrong ∙ ap faulty (sym e)
+  says_event (faulty c) (no_range ds s f n e) = is-12 ds s f n ∙ ap faulty (sym (number-injective _ _ e))
+  says_event (faulty c) (no_label ds s f r some wrong e) = is-13 ds s f r some wrong ∙ ap faulty (sym (number-injective _ _ e))
 
   is_event : (e : Event) → (event_of l ≡ e) ↔ Says l e
   is_event e = ((λ q. subst (Says l) q event_says), says_event e)
@@ -336,5 +340,14 @@ module _ (l : List ℕ) where
   pub ends-says : (i : ℕ) → (event_of l ≡ ends i) ↔ Ends l i
   ends-says i = is_event (ends i)
 
-  pub faulty-says : (c : ℕ) → (event_of l ≡ faulty c) ↔ MetBytes l c
-  faulty-says c = is_event (faulty c)
+  pub faulty-says : (e : Refusal) → (event_of l ≡ faulty e) ↔ MetBytes l (number e)
+  faulty-says e = is_event (faulty e)
+
+  -- the same, by the number
+  pub faulty-number : (c : ℕ) → ((e : Refusal) × ((event_of l ≡ faulty e) × (number e ≡ c))) ↔ MetBytes l c
+  faulty-number c = ((λ w. subst (MetBytes l) w.1.1 ((faulty-says w.0).0 w.1.0)), λ m. by m m)
+    where
+      by : MetBytes l c → MetBytes l c → (e : Refusal) × ((event_of l ≡ faulty e) × (number e ≡ c))
+      by m (no_form _ q) = (LineForm, ((faulty-says LineForm).1 (subst (MetBytes l) q m), sym q))
+      by m (no_range _ _ _ _ q) = (LineId, ((faulty-says LineId).1 (subst (MetBytes l) q m), sym q))
+      by m (no_label _ _ _ _ _ _ q) = (LineLabel, ((faulty-says LineLabel).1 (subst (MetBytes l) q m), sym q))

@@ -12,6 +12,7 @@ use Rattle.lists.specs.Lists.{none?, all?, has?, up_to, past}
 use Rattle.lists.proofs.Cases.{either_lt, either_bool, never, and_left, and_right}
 use Rattle.labels.specs.Label.{digit?, capital, capitals, label_form?}
 use Rattle.labels.proofs.Capitals.{capital_low, capital_high, capital-small, capital_sign, capitals-has, capitals_up, capitals-past}
+use Rattle.refusals.specs.declared.Refusal.TheVariants.{LineForm, LineId, LineLabel}
 use Rattle.lines.specs.Event.{Event, begins, faulty}
 use Rattle.lines.specs.Line.{id_form?, id_range?, value, end_event, plain_event, label_event, begin_event, body_event, event_of}
 use Rattle.lines.specs.Log.{glue, lines_of}
@@ -93,7 +94,7 @@ label_capital i l =
     either_bool (id_form? i)
     (λ e.
     ap (λ (x : List ℕ). label_event x (capitals l)) (id_stays i e)
-    ∙ ap₂ (λ (x : Bool) (y : List ℕ). cond (id_form? i && not x) (cond (id_range? i) (cond (label_form? y) (begins (value i) y) (faulty 13)) (faulty 12)) (faulty 11)) (none_capitals l) (capitals-twice l))
+    ∙ ap₂ (λ (x : Bool) (y : List ℕ). cond (id_form? i && not x) (cond (id_range? i) (cond (label_form? y) (begins (value i) y) (faulty LineLabel)) (faulty LineId)) (faulty LineForm)) (none_capitals l) (capitals-twice l))
     (λ e. simp (id_capital i, e))
 
 begin_capital : (r : List ℕ) → begin_event (capitals r) ≡ begin_event r
@@ -114,8 +115,8 @@ unfolding body_event kept
 body_kept [] = refl
 body_kept (k ∷ []) = refl
 body_kept (k ∷ s ∷ r) =
-    ap (λ (x : Bool). cond x (cond (eqb k 66) (begin_event (capitals r)) (cond (eqb k 69) (end_event (capitals r)) (faulty 11))) (faulty 11)) (capital_sign s 32 (omega arith))
-    ∙ ap₂ (λ (x y : Event). cond (eqb s 32) (cond (eqb k 66) x (cond (eqb k 69) y (faulty 11))) (faulty 11)) (begin_capital r) (end_capital r)
+    ap (λ (x : Bool). cond x (cond (eqb k 66) (begin_event (capitals r)) (cond (eqb k 69) (end_event (capitals r)) (faulty LineForm))) (faulty LineForm)) (capital_sign s 32 (omega arith))
+    ∙ ap₂ (λ (x y : Event). cond (eqb s 32) (cond (eqb k 66) x (cond (eqb k 69) y (faulty LineForm))) (faulty LineForm)) (begin_capital r) (end_capital r)
 
 past_kept : (b : ℕ) (s : List ℕ) → past 10 (b ∷ capitals s) ≡ capitals (past 10 (b ∷ s))
 past_kept b s = either_bool (eqb b 10) (λ e. simp e) (λ e. simp e (capitals-past 10 (omega arith) s))
@@ -132,7 +133,7 @@ event_kept (b ∷ s) =
     let rest : none? (past 10 (b ∷ capitals s)) ≡ none? (past 10 (b ∷ s)) = ap none? (past_kept b s) ∙ none_capitals (past 10 (b ∷ s)) in
     let long : length (b ∷ capitals s) ≡ length (b ∷ s) = ap suc (length-map s capital) in
     let says : body_event (up_to 10 (b ∷ capitals s)) ≡ body_event (up_to 10 (b ∷ s)) = ap body_event (up_kept b s) ∙ body_kept (up_to 10 (b ∷ s)) in
-    λ i. cond (has i && rest i && leb (long i) 40) (says i) (faulty 11)
+    λ i. cond (has i && rest i && leb (long i) 40) (says i) (faulty LineForm)
 
 -- ── the lines of a log ──
 folded : Bool → List ℕ → List ℕ

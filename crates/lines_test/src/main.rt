@@ -9,34 +9,35 @@
 // `=` writes its text.
 #![tactic(auto)]
 
-use lines::{Next, Parsed};
+use lines::{LineSays, Span};
+use refusals::Refusal;
 use std::io::Stdout;
 
 // Writes what one line says.
 fn show_line(out: Stdout, line: &[u8]) {
     match lines::parse_line(line) {
-        Parsed::Begin { id, label, length } => {
+        Ok(LineSays::Begin { id, label, length }) => {
             let numbers = [id as u64, label as u64, length as u64];
             test_text::write_filled(out, b"B %a label at %b length %c", &numbers);
         }
-        Parsed::End(id) => {
+        Ok(LineSays::End(id)) => {
             test_text::write(out, b"E ");
             test_text::write_number(out, id as u64);
         }
-        Parsed::Refused(code) => test_text::write_refusal(out, code),
+        Err(why) => test_text::write_refusal(out, u8::from(why)),
     }
     test_text::write(out, b"\n");
 }
 
 // Writes what stands at a place.
-fn show_answer(out: Stdout, n: Next) {
+fn show_answer(out: Stdout, n: Option<Result<Span, Refusal>>) {
     match n {
-        Next::Line { start, end } => {
-            let numbers = [start as u64, end as u64];
+        Some(Ok(line)) => {
+            let numbers = [line.start as u64, line.end as u64];
             test_text::write_filled(out, b"line %a to %b", &numbers);
         }
-        Next::Refused(code) => test_text::write_refusal(out, code),
-        Next::Done => test_text::write(out, b"done"),
+        Some(Err(why)) => test_text::write_refusal(out, u8::from(why)),
+        None => test_text::write(out, b"done"),
     }
 }
 

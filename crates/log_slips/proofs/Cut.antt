@@ -1,6 +1,7 @@
 -- The first 600 bytes of a rule file and the first 8,192 of a log decide what is to be printed. Of a log: at each place that the walk
 -- reaches, the log and its first bytes show the same line. Of a rule file: a longer one than 599 bytes is refused, and its first 600
 -- bytes are refused with the same number.
+use Rattle.std.specs.Prelude.{Some, None, Ok, Err}
 use Prim.Native.Nat.{ℕ, zero, suc, ◌+◌, ◌-◌, ◌<◌, ◌≤◌}
 use mathlib.Core.Path.{◌≡◌, refl, ap, sym, subst, ◌∙◌}
 use mathlib.Core.List.{List, ◌∷◌, ◌++◌}
@@ -8,10 +9,11 @@ use native.Mathlib.Omega.{arith}
 use lib.ListN.{length, take, drop, length-take}
 use lib.Seq.{take-add, take_all}
 use Rattle.lists.proofs.Cases.{either_lt}
+use Rattle.refusals.specs.declared.Refusal.TheVariants.{LineForm}
+use Rattle.refusals.specs.Refusal.{number}
 use Rattle.lines.specs.Event.{faulty}
 use Rattle.lines.specs.Line.{event_of}
-use Rattle.lines.specs.Log.{lines_of, next_line}
-use Rattle.lines.specs.declared.Next.{Next}
+use Rattle.lines.specs.Log.{lines_of, next_line, Next}
 use Rattle.lines.proofs.Log.{Handed, line_is_handed_out, done_means_no_lines, Spoilt, refused_line_is_faulty}
 use Rattle.trace.specs.Trace.{Trace, no_trace, Accepted}
 use Rattle.trace.proofs.Grown.{taken_grows, no_bytes}
@@ -37,9 +39,9 @@ module _ (log : List ℕ) (f : Formula) (s : SlipForm f) where
   from t ls = slips_from f s t ls
 
   -- a first line that is refused with 11
-  faulty-from : (t : Trace) (ls : List (List ℕ)) (l : List ℕ) (later : List (List ℕ)) → ls ≡ l ∷ later → event_of l ≡ faulty 11
-      → from t ls ≡ refused_text (t.lines + 1) 11
-  faulty-from t ls l later e says = ap (from t) e ∙ slips_refused f s t l later 11 (line_faulty t l 11 says)
+  faulty-from : (t : Trace) (ls : List (List ℕ)) (l : List ℕ) (later : List (List ℕ)) → ls ≡ l ∷ later → event_of l ≡ faulty LineForm
+      → from t ls ≡ refused_text (t.lines + 1) (number LineForm)
+  faulty-from t ls l later e says = ap (from t) e ∙ slips_refused f s t l later LineForm (line_faulty t l LineForm says)
 
   -- from a place that is reached, both logs give the same; n places at most are left
   same_from : (n p : ℕ) (t : Trace) → length log - p < n → p ≤ length log → Accepted (take p log) t
@@ -53,7 +55,9 @@ module _ (log : List ℕ) (f : Formula) (s : SlipForm f) where
           → ((e : ℕ) (u : Trace) → length log - e < n → e ≤ length log → Accepted (take e log) u
           → from u (lines_of (drop e log)) ≡ from u (lines_of (drop e cut)))
           → from t (lines_of (drop p log)) ≡ from t (lines_of (drop p cut))
-      go low (Next.Line i e) q rest =
+      go low (Some (Ok span)) q rest =
+          let i : ℕ = span.start in
+          let e : ℕ = span.end in
           let x : Handed log p i e = line_is_handed_out log p i e q in
           let y : Handed cut p i e = line_is_handed_out cut p i e (next_cut log p low ∙ q) in
           let l : List ℕ = line_between log p e in
@@ -68,12 +72,12 @@ module _ (log : List ℕ) (f : Formula) (s : SlipForm f) where
           ∙ sym (slips_taken f s t l (lines_of (drop e cut)) u k)))
           (λ c k. slips_refused f s t l (lines_of (drop e log)) c k ∙ sym (slips_refused f s t l (lines_of (drop e cut)) c k))
           ∙ ap (from t) (sym b))
-      go low (Next.Refused c) q rest =
+      go low (Some (Err c)) q rest =
           let x : Spoilt log p c = refused_line_is_faulty log p c q in
           let y : Spoilt cut p c = refused_line_is_faulty cut p c (next_cut log p low ∙ q) in
           faulty-from t (lines_of (drop p log)) x.line x.later x.lines x.says
           ∙ sym (faulty-from t (lines_of (drop p cut)) y.line y.later y.lines y.says)
-      go low Next.Done q rest = ap (from t) (done_means_no_lines log p q ∙ sym (done_means_no_lines cut p (next_cut log p low ∙ q)))
+      go low None q rest = ap (from t) (done_means_no_lines log p q ∙ sym (done_means_no_lines cut p (next_cut log p low ∙ q)))
 
   log_cut : slips_from f s no_trace (lines_of (take 8192 log)) ≡ slips_from f s no_trace (lines_of log)
   log_cut = sym (same_from (suc (length log)) 0 no_trace (omega arith) (omega arith) no_bytes)

@@ -1,4 +1,5 @@
 -- One line more: the record that it leaves and what is found then, or its refusal.
+use Rattle.std.specs.Prelude.{Ok, Err}
 use Prim.Native.Nat.{ℕ, ◌≤◌}
 use mathlib.Core.Path.{◌≡◌, refl, ap, sym, subst, ◌∙◌}
 use mathlib.Core.Bool.{true}
@@ -6,11 +7,11 @@ use mathlib.Core.List.{List, ◌++◌}
 use native.Mathlib.Omega.{arith}
 use lib.ListN.{length}
 use Rattle.lists.proofs.Cases.{never}
+use Rattle.refusals.specs.declared.Refusal.{Refusal}
 use Rattle.lines.specs.Line.{event_of}
 use Rattle.trace.specs.declared.Record.{Record}
 use Rattle.trace.specs.declared.RunNo.{RunNo}
 use Rattle.trace.specs.declared.Stepped.{Stepped}
-use Rattle.trace.specs.declared.StepOutcome.TheVariants as Step
 use Rattle.trace.specs.Trace.{Trace, Answer, next, refused, step, run_of, Accepted}
 use Rattle.trace.specs.Record.{record_of, answer_of, Valid}
 use Rattle.trace.proofs.Bounds.{accepted-bounded}
@@ -27,10 +28,10 @@ use Rattle.log_slips.specs.declared.Walk.{Walk}
 use Rattle.log_slips.specs.Walk.{found_text, Refuses, TakesLine}
 use Rattle.log_slips.proofs.Found.{valid_lines, found_few}
 
-not_next : {C : Type 0} (b : Answer) (c : ℕ) (u : Trace) → b ≡ refused c → b ≡ next u → C
+not_next : {C : Type 0} (b : Answer) (c : Refusal) (u : Trace) → b ≡ refused c → b ≡ next u → C
 not_next b c u p q = never (cc)
 
-same_number_lem : (b : Answer) (c d : ℕ) → b ≡ refused c → b ≡ refused d → c ≡ d
+same_number_lem : (b : Answer) (c d : Refusal) → b ≡ refused c → b ≡ refused d → c ≡ d
 same_number_lem b c d p q = let e : refused c ≡ refused d = sym p ∙ q in cc
 
 same_trace : (b : Answer) (t u : Trace) → b ≡ next t → b ≡ next u → t ≡ u
@@ -41,7 +42,7 @@ module _ (line : List ℕ) (r : Record) (s : Said) (said : s ≡ said_as (length
   answered log t acc e = steps_line r line s a said took t (accepted-bounded log t acc) e
 
   -- ── the line is taken ──
-  module _ (z : RunNo) (o : a.outcome ≡ Step.Taken z) where
+  module _ (z : RunNo) (o : a.outcome ≡ Ok z) where
     left : (log : List ℕ) (t : Trace) (acc : Accepted log t) (e : r ≡ record_of t) → TakenStep t (run_of t (event_of line)) (step (next t) line) a (answered log t acc e) z
     left log t acc e = step-taken t (run_of t (event_of line)) (step (next t) line) a (answered log t acc e) z o
 
@@ -84,7 +85,7 @@ module _ (line : List ℕ) (r : Record) (s : Said) (said : s ≡ said_as (length
         }
 
   -- ── the line is refused ──
-  module _ (c : ℕ) (o : a.outcome ≡ Step.Refused c) where
+  module _ (c : Refusal) (o : a.outcome ≡ Err c) where
     why : (log : List ℕ) (t : Trace) → Accepted log t → r ≡ record_of t → step (next t) line ≡ refused c
     why log t acc e = (step_refused t (run_of t (event_of line)) (step (next t) line) a (answered log t acc e) c o).0
 
@@ -95,5 +96,5 @@ module _ (line : List ℕ) (r : Record) (s : Said) (said : s ≡ said_as (length
           taken = λ log t u acc e p. not_next (step (next t) line) c u (why log t acc (g ∙ e)) p;
           refused =
               λ log t d acc e p.
-              subst (λ (m : ℕ). Refuses w m text v text') (same_number_lem (step (next t) line) c d (why log t acc (g ∙ e)) p) k;
+              subst (λ (m : Refusal). Refuses w m text v text') (same_number_lem (step (next t) line) c d (why log t acc (g ∙ e)) p) k;
         }

@@ -1,5 +1,6 @@
 -- The walk over the lines of a log is right. Before each line the text so far, and then that of the lines that are left, is the text of
 -- all lines: a line that is accepted moves its own text from what is left to what is written, and one that is refused is all that is left.
+use Rattle.std.specs.Prelude.{Some, None, Ok, Err}
 use Prim.Native.Nat.{ℕ, ◌+◌, ◌*◌, ◌-◌, ◌≤◌}
 use mathlib.Core.Path.{◌≡◌, refl, ap, sym, subst, ◌∙◌}
 use mathlib.Core.Bool.{Bool, true, false}
@@ -8,9 +9,12 @@ use native.Mathlib.Omega.{arith}
 use lib.ListN.{length, take, drop, length-append, length-drop}
 use lib.Seq.{length-take-le, take_at, take-add}
 use Rattle.lists.proofs.Cases.{no_both}
+use Rattle.refusals.specs.declared.Refusal.TheVariants.{LineForm}
+use Rattle.refusals.specs.declared.Refusal.{Refusal}
+use Rattle.refusals.specs.Refusal.{number}
 use Rattle.lines.specs.declared.Advanced.{Advanced}
-use Rattle.lines.specs.declared.Next.{Next}
-use Rattle.lines.specs.Log.{lines_of, next_line, place_after, advanced_from}
+use Rattle.lines.specs.declared.Span.{Span}
+use Rattle.lines.specs.Log.{lines_of, next_line, place_after, advanced_from, Next}
 use Rattle.lines.proofs.Log.{Handed, line_is_handed_out, done_means_no_lines, Spoilt, refused_line_is_faulty}
 use Rattle.trace.specs.declared.Record.{Record}
 use Rattle.trace.specs.Trace.{Trace, Answer, next, refused, no_trace, step, Accepted}
@@ -46,7 +50,7 @@ module _ (f : Formula) (s : SlipForm f) (t : Trace) where
     unfolding slips_from by_answer
     slips_taken u p = ap by_line p
 
-    pub slips_refused : (c : ℕ) → step (next t) l ≡ refused c → slips_from f s t (l ∷ ls) ≡ refused_text (t.lines + 1) c
+    pub slips_refused : (c : Refusal) → step (next t) l ≡ refused c → slips_from f s t (l ∷ ls) ≡ refused_text (t.lines + 1) (number c)
     unfolding slips_from by_answer
     slips_refused c p = ap by_line p
 
@@ -126,31 +130,37 @@ module _ (file log : List ℕ) (w : Walk) (text : List ℕ) (k : Walked file log
     at_next : next_line log place ≡ a.next
     at_next = sym (ap (λ (y : Advanced). y.next) read)
 
-    pub walk_done : a.next ≡ Next.Done → (v : Walk) → Stops w v → Steps file log w v text
+    pub walk_done : a.next ≡ None → (v : Walk) → Stops w v → Steps file log w v text
     walk_done e v s =
         stays v w.size s.state s.place s.size s.more text
         (ends [] w.size text k.room (omega arith) (sym (append-nil (take w.size text)))
         (λ h d. ap (slips_from h d t) (done_means_no_lines log place (at_next ∙ e)) ∙ slips_none h d t))
 
     -- a refusal with c, which is that of the line at the place
-    refused_at : (c : ℕ) (l : List ℕ) (ls : List (List ℕ)) → lines_of (drop place log) ≡ l ∷ ls → step (next t) l ≡ refused c
+    refused_at : (c : Refusal) (l : List ℕ) (ls : List (List ℕ)) → lines_of (drop place log) ≡ l ∷ ls → step (next t) l ≡ refused c
         → (v : Walk) (text' : List ℕ) → Refuses w c text v text' → Steps file log w v text'
     refused_at c l ls h p v text' s =
-        let d : Writes (refused_text (w.state.lines.0 + 1) c) text w.size text' v.size = s.written.writes in
+        let d : Writes (refused_text (w.state.lines.0 + 1) (number c)) text w.size text' v.size = s.written.writes in
         let within : v.size ≤ length text = omega (arith, s.written.few, size_room) in
         stays v v.size s.state s.place refl s.more text'
-        (ends (refused_text (w.state.lines.0 + 1) c) v.size text'
+        (ends (refused_text (w.state.lines.0 + 1) (number c)) v.size text'
         (omega (arith, wrote_length _ _ _ _ _ d within, k.room))
         (omega (arith, s.written.few))
         (wrote_take _ _ _ _ _ d)
-        (λ f i. ap (slips_from f i t) h ∙ (slips_refused f i t l ls c p ∙ ap (λ (n : ℕ). refused_text (n + 1) c) (sym state_lines))))
+        (λ f i. ap (slips_from f i t) h ∙ (slips_refused f i t l ls c p ∙ ap (λ (n : ℕ). refused_text (n + 1) (number c)) (sym state_lines))))
 
-    pub walk_refused : (c : ℕ) → a.next ≡ Next.Refused c → (v : Walk) (text' : List ℕ) → Refuses w c text v text' → Steps file log w v text'
+    pub walk_refused : (c : Refusal) → a.next ≡ Some (Err c) → (v : Walk) (text' : List ℕ) → Refuses w c text v text' → Steps file log w v text'
     walk_refused c e v text' s =
         let h : Spoilt log place c = refused_line_is_faulty log place c (at_next ∙ e) in
-        refused_at c h.line h.later h.lines (line_faulty t h.line 11 h.says ∙ ap refused (sym h.number)) v text' s
+        refused_at c h.line h.later h.lines (line_faulty t h.line LineForm h.says ∙ ap refused (sym h.refusal)) v text' s
 
-    module _ (i e : ℕ) (is : a.next ≡ Next.Line i e) where
+    module _ (span : Span) (is : a.next ≡ Some (Ok span)) where
+      abbrev i : ℕ
+      i = span.start
+
+      abbrev e : ℕ
+      e = span.end
+
       at : Handed log place i e
       at = line_is_handed_out log place i e (at_next ∙ is)
 

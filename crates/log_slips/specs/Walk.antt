@@ -1,5 +1,7 @@
 -- How the code works, not what it means: the walk over the lines of a log.
 use Rattle.std.specs.Prelude.{ℕ, ◌+◌, ◌*◌, ◌<◌, ◌≤◌, ◌≡◌, Bool, true, false, List, [], ◌++◌, length, take, drop}
+use Rattle.refusals.specs.declared.Refusal.{Refusal}
+use Rattle.refusals.specs.Refusal.{number}
 use Rattle.lines.specs.Log.{lines_of}
 use Rattle.trace.specs.Trace.{Trace, no_trace, next, refused, step, Accepted}
 use Rattle.trace.specs.Record.{record_of}
@@ -57,11 +59,11 @@ pub record Walked (file log : List ℕ) (w : Walk) (text : List ℕ) : Type 0 wh
       → take w.size text ++ left_text w.more (formula_of file x) s trace (lines_of (drop w.place log)) ≡ slips_from (formula_of file x) s no_trace (lines_of log)
 
 -- the next line is refused: its text is written, and no later line is read
-pub record Refuses (w : Walk) (c : ℕ) (text : List ℕ) (v : Walk) (text' : List ℕ) : Type 0 where
+pub record Refuses (w : Walk) (c : Refusal) (text : List ℕ) (v : Walk) (text' : List ℕ) : Type 0 where
   pub state : v.state ≡ w.state
   pub place : v.place ≡ w.place
   pub more : v.more ≡ false
-  pub written : WritesFew 9 (refused_text (w.state.lines.0 + 1) c) text w.size text' v.size
+  pub written : WritesFew 9 (refused_text (w.state.lines.0 + 1) (number c)) text w.size text' v.size
 
 -- the next line is accepted and leaves u: what is found then is written, and the next line starts at `after`
 pub record GoesOn (file : List ℕ) (after : ℕ) (w : Walk) (text : List ℕ) (u : Trace) (v : Walk) (text' : List ℕ) : Type 0 where
@@ -75,7 +77,7 @@ pub record GoesOn (file : List ℕ) (after : ℕ) (w : Walk) (text : List ℕ) (
 -- one line more, after every accepted log that leaves the record
 pub record TakesLine (file line : List ℕ) (after : ℕ) (w : Walk) (text : List ℕ) (v : Walk) (text' : List ℕ) : Type 0 where
   pub taken : (log : List ℕ) (t u : Trace) → Accepted log t → w.state ≡ record_of t → step (next t) line ≡ next u → GoesOn file after w text u v text'
-  pub refused : (log : List ℕ) (t : Trace) (c : ℕ) → Accepted log t → w.state ≡ record_of t → step (next t) line ≡ refused c → Refuses w c text v text'
+  pub refused : (log : List ℕ) (t : Trace) (c : Refusal) → Accepted log t → w.state ≡ record_of t → step (next t) line ≡ refused c → Refuses w c text v text'
 
 -- no line is left
 pub record Stops (w v : Walk) : Type 0 where

@@ -16,11 +16,11 @@ ghost use Rattle.log_slips.specs.Printed.{rule_room, log_room, runs_text, slip_t
 ghost use Rattle.log_slips.specs.Walk.{found_text, text_size, Walked, Refuses, Stops, TakesLine, Steps, ShowsLines};
 
 use input::{Filled, Streams};
-use lines::Next;
 use slip_form::Slip;
 use slips::{Finding, Found};
 use std::rt::Files;
-use trace::{Record, StepOutcome};
+use refusals::Refusal;
+use trace::Record;
 
 // One byte more than the longest rule file, so that a longer one is seen to be too long.
 const RULE_ROOM: usize = 600;
@@ -100,13 +100,13 @@ fn put_found(text: &mut [u8], at: usize, n: u32, f: Finding) -> usize
 }
 
 // The line after those of the record is refused, and no later line is read.
-fn refuse(text: &mut [u8], w: Walk, c: u8) -> Walk
+fn refuse(text: &mut [u8], w: Walk, c: Refusal) -> Walk
     requires { (w.size + 20 ≤ length text.old) × (w.state.lines.0 ≤ max_lines) }
     ensures { Refuses w c text.old result text.new }
 {
     let state = w.state;
     let place = w.place;
-    let size = text_pieces::put_refused(text, w.size, state.lines.0 as u32 + 1, c as u32);
+    let size = text_pieces::put_refused(text, w.size, state.lines.0 as u32 + 1, u8::from(c) as u32);
     Walk {
         state: state,
         place: place,
@@ -126,8 +126,8 @@ fn take_line(file: &[u8], line: &[u8], place: usize, w: Walk, text: &mut [u8]) -
     let state = a.state;
     let o = a.outcome;
     match o {
-        StepOutcome::Refused(c) => return refuse(text, w, c),
-        StepOutcome::Taken(_) => {
+        Err(c) => return refuse(text, w, c),
+        Ok(_) => {
             let f = slips::first_slip(file, state);
             let size = put_found(text, w.size, state.lines.0 as u32, f);
             return Walk {
@@ -161,9 +161,9 @@ fn step(file: &[u8], log: &[u8], w: Walk, text: &mut [u8]) -> Walk
     let a = lines::line_from(log, w.place);
     let next = a.next;
     match next {
-        Next::Done => return stop(w),
-        Next::Refused(c) => return refuse(text, w, c),
-        Next::Line { start, end } => return take_line(file, &log[start..end], a.place, w, text),
+        None => return stop(w),
+        Some(Err(c)) => return refuse(text, w, c),
+        Some(Ok(line)) => return take_line(file, &log[line.start..line.end], a.place, w, text),
     }
 }
 
@@ -179,6 +179,7 @@ fn put_lines(file: &[u8], log: &[u8], text: &mut [u8]) -> usize
         size: 0,
         more: true,
     };
+    // Kept: no count, since each line says where the next begins and whether there is one.
     while w.more {
         w = step(file, log, w, text);
     }

@@ -1,6 +1,7 @@
 // The calls, on what they are handed.
 use super::{answers, handed};
-use lines::Next;
+use lines::Span;
+use refusals::Refusal;
 use monitor::{Mode, Tallied};
 use pairs::Layout;
 use std::io::Stdout;
@@ -93,12 +94,11 @@ fn next(
     file: &[u8],
     work: &mut [u8],
     log: &[u8],
-    n: Next,
+    n: Option<Result<Span, Refusal>>,
 ) -> Tallied {
     match n {
-        Next::Line { start, end } => part(out, l, s, kind, file, work, log, start, end),
-        Next::Refused(_) => s,
-        Next::Done => s,
+        Some(Ok(line)) => part(out, l, s, kind, file, work, log, line.start, line.end),
+        Some(Err(_)) | None => s,
     }
 }
 

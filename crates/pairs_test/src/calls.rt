@@ -2,7 +2,8 @@
 use super::area;
 use pairs::{Layout, Start};
 use std::io::Stdout;
-use trace::{Record, StepOutcome};
+use refusals::Refusal;
+use trace::{Record, RunNo};
 
 // Writes how a record starts.
 fn show_start(out: Stdout, o: Start) {
@@ -23,11 +24,11 @@ fn started(out: Stdout, l: Layout, kind: u8, work: &mut [u8]) -> Record {
 }
 
 // Brings the area up to date after a line that is taken, or writes the refusal.
-fn update(out: Stdout, l: Layout, r: Record, o: StepOutcome, work: &mut [u8]) {
+fn update(out: Stdout, l: Layout, r: Record, o: Result<RunNo, Refusal>, work: &mut [u8]) {
     match o {
-        StepOutcome::Taken(k) => area::refresh(l, r, k, work),
-        StepOutcome::Refused(code) => {
-            test_text::write_refusal(out, code);
+        Ok(k) => area::refresh(l, r, k, work),
+        Err(why) => {
+            test_text::write_refusal(out, u8::from(why));
             test_text::write(out, b"\n");
         }
     }

@@ -7,6 +7,8 @@ use mathlib.Core.List.{List, [], ◌∷◌, ◌++◌, append_assoc}
 use native.Mathlib.Omega.{arith}
 use lib.ListN.{length, get_or, take, drop}
 use Rattle.lists.proofs.Lists.{append-nil, Free, free_more}
+use Rattle.refusals.specs.declared.Refusal.{Refusal}
+use Rattle.refusals.specs.Refusal.{number}
 use Rattle.lines.specs.Log.{lines_of}
 use Rattle.trace.specs.Trace.{Trace, next, refused, no_trace, steps, read, Accepted, step}
 use Rattle.trace.proofs.Taken.{line_lines}
@@ -83,11 +85,11 @@ module _ (file : List ℕ) (x : Rule) where
     lines_taken : (u : Trace) → step (next t) l ≡ next u → lines_of (text_from file x t n (l ∷ ls)) ≡ line_text u.lines (verdict u) ∷ lines_of (text_from file x u (n + failed (verdict u)) ls)
     lines_taken u p = ap lines_of (text_taken file x t n l ls u p) ∙ whole_first (line_text u.lines (verdict u)) (line_whole u.lines (verdict u)) _
 
-    lines_refused : (c : ℕ) → step (next t) l ≡ refused c → lines_of (text_from file x t n (l ∷ ls)) ≡ refused_text (t.lines + 1) c ∷ tally_text (tally_of t n) ∷ []
+    lines_refused : (c : Refusal) → step (next t) l ≡ refused c → lines_of (text_from file x t n (l ∷ ls)) ≡ refused_text (t.lines + 1) (number c) ∷ tally_text (tally_of t n) ∷ []
     lines_refused c p =
         ap lines_of (text_refused file x t n l ls c p)
-        ∙ (whole_first (refused_text (t.lines + 1) c) (refused_whole (t.lines + 1) c) _
-        ∙ ap (λ (z : List (List ℕ)). refused_text (t.lines + 1) c ∷ z) (line_alone (tally_text (tally_of t n)) (tally_whole (tally_of t n))))
+        ∙ (whole_first (refused_text (t.lines + 1) (number c)) (refused_whole (t.lines + 1) (number c)) _
+        ∙ ap (λ (z : List (List ℕ)). refused_text (t.lines + 1) (number c) ∷ z) (line_alone (tally_text (tally_of t n)) (tally_whole (tally_of t n))))
 
   -- ── the line of an accepted line ──
   line_said : (k : ℕ) (ls : List (List ℕ)) (t : Trace) (n : ℕ) (u : Trace) → k < length ls → steps (next t) (take (suc k) ls) ≡ next u
@@ -120,10 +122,10 @@ module _ (file : List ℕ) (x : Rule) where
 
   -- THE LAW: what the text of a log says
   module _ (taken : Taken file x) (log : List ℕ) where
-    stop_said : (before : List (List ℕ)) (last : List ℕ) (after : List (List ℕ)) (t : Trace) (c : ℕ) → lines_of log ≡ before ++ (last ∷ after)
+    stop_said : (before : List (List ℕ)) (last : List ℕ) (after : List (List ℕ)) (t : Trace) (c : Refusal) → lines_of log ≡ before ++ (last ∷ after)
         → steps (next no_trace) before ≡ next t → step (next t) last ≡ refused c
         → drop (length before) (lines_of (text_from file x no_trace 0 (lines_of log)))
-        ≡ refused_text (length before + 1) c ∷ tally_text (tally_of t (failing_from file x no_trace before)) ∷ []
+        ≡ refused_text (length before + 1) (number c) ∷ tally_text (tally_of t (failing_from file x no_trace before)) ∷ []
     stop_said before last after t c d e p =
         let f : ℕ = failing_from file x no_trace before in
         let m : t.lines ≡ 0 + length before = lines_counted before no_trace t e in
@@ -131,7 +133,7 @@ module _ (file : List ℕ) (x : Rule) where
         let z : 0 + f ≡ f = omega arith in
         ap (λ (ls : List (List ℕ)). drop (length before) (lines_of (text_from file x no_trace 0 ls))) d
         ∙ (rest_said before (last ∷ after) no_trace 0 t e
-        ∙ (lines_refused t (0 + f) last after c p ∙ (λ i. refused_text (a i) c ∷ tally_text (tally_of t (z i)) ∷ [])))
+        ∙ (lines_refused t (0 + f) last after c p ∙ (λ i. refused_text (a i) (number c) ∷ tally_text (tally_of t (z i)) ∷ [])))
 
     whole_said : (t : Trace) → Accepted log t → drop (length (lines_of log)) (lines_of (text_from file x no_trace 0 (lines_of log))) ≡ tally_text (tally_after file x log t) ∷ []
     unfolding tally_after read

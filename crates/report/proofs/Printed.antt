@@ -7,6 +7,8 @@ use native.Mathlib.Omega.{arith}
 use native.Mathlib.Numerals.{add-one}
 use lib.ListN.{length, get_or, set, length-set}
 use borrow.Author.Tests.{ne_eqb}
+use Rattle.refusals.specs.declared.Refusal.{Refusal}
+use Rattle.refusals.specs.Refusal.{number}
 use Rattle.lines.specs.Line.{event_of}
 use Rattle.trace.specs.Trace.{Trace, Answer, next, refused, step}
 use Rattle.trace.specs.Record.{record_of, Bounded}
@@ -65,7 +67,7 @@ module _ (file : List ℕ) (x : Rule) where
         (λ u. line_text u.lines (verdict u) ++ text_from file x u (n + failed (verdict u)) ls)
         (λ c. refused_text (t.lines + 1) c ++ tally_text (tally_of t n))) p
 
-    pub text_refused : (c : ℕ) → step (next t) l ≡ refused c → text_from file x t n (l ∷ ls) ≡ refused_text (t.lines + 1) c ++ tally_text (tally_of t n)
+    pub text_refused : (c : Refusal) → step (next t) l ≡ refused c → text_from file x t n (l ∷ ls) ≡ refused_text (t.lines + 1) (number c) ++ tally_text (tally_of t n)
     unfolding text_from by_answer
     text_refused c p =
         ap (λ (a : Answer). by_answer {A = List ℕ} a
@@ -95,7 +97,7 @@ module _ (file : List ℕ) (x : Rule) where
         })
 
     module _ (t : Trace) (l : List ℕ) (ls : List (List ℕ)) (out : List ℕ) (s : Sound t) where
-      printed_refused : (c : ℕ) → step (next t) l ≡ refused c → Printed t (l ∷ ls) (lines_from lay file x t (l ∷ ls) w out)
+      printed_refused : (c : Refusal) → step (next t) l ≡ refused c → Printed t (l ∷ ls) (lines_from lay file x t (l ∷ ls) w out)
       unfolding record_text
       printed_refused c p =
           let b = sound_bounded t s in

@@ -1,6 +1,8 @@
 -- The report: the check program's whole output for a rule file and a log, in a lent buffer.
 use Rattle.std.specs.Prelude.{ℕ, suc, ◌+◌, ◌<◌, ◌≤◌, ◌≡◌, cond, ◌||◌, List, [], ◌∷◌, ◌++◌, ltb, length, get_or, take, drop}
 use Rattle.lists.specs.Limits.{max_lines}
+use Rattle.refusals.specs.declared.Refusal.{Refusal}
+use Rattle.refusals.specs.Refusal.{number}
 use Rattle.lines.specs.Log.{lines_of}
 use Rattle.trace.specs.Trace.{Trace, next, refused, no_trace, steps, Accepted, step}
 use Rattle.pairs.specs.declared.Layout.{Layout}
@@ -49,9 +51,9 @@ pub record TextMeans (file : List ℕ) (x : Rule) (log text : List ℕ) : Type 0
       → LineSays file x u (suc k) (get_or (lines_of text) k [])
   -- "for a refused line its number, a space, `R` and the refusal joined (as `3 R15`), and no later line. Last comes `T`": after the
   -- text of the lines before it, that line and the tally of the lines before it, and nothing else
-  pub stops : (before : List (List ℕ)) (last : List ℕ) (after : List (List ℕ)) (t : Trace) (c : ℕ) → lines_of log ≡ before ++ (last ∷ after)
+  pub stops : (before : List (List ℕ)) (last : List ℕ) (after : List (List ℕ)) (t : Trace) (c : Refusal) → lines_of log ≡ before ++ (last ∷ after)
       → steps (next no_trace) before ≡ next t → step (next t) last ≡ refused c
-      → drop (length before) (lines_of text) ≡ refused_text (length before + 1) c ∷ tally_text (tally_of t (failing_from file x no_trace before)) ∷ []
+      → drop (length before) (lines_of text) ≡ refused_text (length before + 1) (number c) ∷ tally_text (tally_of t (failing_from file x no_trace before)) ∷ []
   -- every line is accepted: after their text the tally of the log, and nothing else
   pub whole : (t : Trace) → Accepted log t → drop (length (lines_of log)) (lines_of text) ≡ tally_text (tally_after file x log t) ∷ []
 

@@ -1,13 +1,15 @@
 -- The inner step is right: it takes the line, and judges the log with the line where the line is taken.
+use Rattle.std.specs.Prelude.{Ok, Err}
 use Prim.Native.Nat.{ℕ, ◌≤◌}
 use mathlib.Core.Path.{◌≡◌, ap, sym, ◌∙◌}
 use mathlib.Core.List.{List, ◌++◌}
 use native.Mathlib.Omega.{arith}
+use Rattle.refusals.specs.declared.Refusal.{Refusal}
+use Rattle.refusals.specs.Refusal.{number}
 use Rattle.lines.specs.Line.{event_of}
 use Rattle.trace.specs.declared.RunNo.{RunNo}
 use Rattle.trace.specs.declared.Record.{Record}
 use Rattle.trace.specs.declared.Stepped.{Stepped}
-use Rattle.trace.specs.declared.StepOutcome.TheVariants as Step
 use Rattle.trace.specs.Trace.{Trace, next, step, run_of}
 use Rattle.trace.specs.Record.{record_of, Bounded, Valid}
 use Rattle.trace.proofs.Bounds.{accepted-bounded}
@@ -27,11 +29,11 @@ use Rattle.single.proofs.LineMeans.{by_line_lem}
 
 module _ (lay : Layout) (r : Record) (w line : List ℕ) (a : Stepped) (v : List ℕ) (f : TakesLine lay r w line a v) where
   -- the step of a taken line, for a log that leaves what is handed in
-  taken_step : (log : List ℕ) (t : Trace) (l : Left lay log t r w) (z : RunNo) → a.outcome ≡ Step.Taken z → TakenStep t (run_of t (event_of line)) (step (next t) line) a (f log t l).answer z
+  taken_step : (log : List ℕ) (t : Trace) (l : Left lay log t r w) (z : RunNo) → a.outcome ≡ Ok z → TakenStep t (run_of t (event_of line)) (step (next t) line) a (f log t l).answer z
   taken_step log t l z o = step-taken t (run_of t (event_of line)) (step (next t) line) a (f log t l).answer z o
 
   -- the log with the line leaves the record
-  pub taken_valid : Standing lay r w → (z : RunNo) → a.outcome ≡ Step.Taken z → Valid a.state
+  pub taken_valid : Standing lay r w → (z : RunNo) → a.outcome ≡ Ok z → Valid a.state
   taken_valid s z o =
       let n = taken_step s.log s.trace s.left z o in
       record {
@@ -42,14 +44,14 @@ module _ (lay : Layout) (r : Record) (w line : List ℕ) (a : Stepped) (v : List
       }
 
   module _ (file : List ℕ) (x : Rule) where
-    pub advances_refused : (c : ℕ) → a.outcome ≡ Step.Refused c → Advances lay file x r w line (refusing a.state c) v
+    pub advances_refused : (c : Refusal) → a.outcome ≡ Err c → (k : ℕ) → k ≡ number c → Advances lay file x r w line (refusing a.state k) v
     unfolding line_after
-    advances_refused c o log t l =
+    advances_refused c o n e log t l =
         let k = f log t l in
         let q = step_refused t (run_of t (event_of line)) (step (next t) line) a k.answer c o in
-        (λ i. (refusing (q.1 i) c, (k.pairs ∙ ap (work_after lay w) q.0) i)) ∙ ap (line_after lay file x t w) (sym q.0)
+        (λ i. (refusing (q.1 i) (e i), (k.pairs ∙ ap (work_after lay w) q.0) i)) ∙ ap (line_after lay file x t w) (sym q.0)
 
-    pub advances_taken : (z : RunNo) → a.outcome ≡ Step.Taken z → (y : Verdict) → JudgesLast file x a.state y → (o : Outcome) → o ≡ judged y
+    pub advances_taken : (z : RunNo) → a.outcome ≡ Ok z → (y : Verdict) → JudgesLast file x a.state y → (o : Outcome) → o ≡ judged y
         → Advances lay file x r w line (record { state = a.state; outcome = o }) v
     unfolding line_after
     advances_taken z e y j o q log t l =

@@ -5,6 +5,8 @@ use Prim.Native.Nat.{ℕ}
 use mathlib.Core.Path.{◌≡◌, refl, ap, sym, ◌∙◌, subst}
 use mathlib.Core.List.{List}
 use native.Mathlib.Omega.{arith}
+use Rattle.refusals.specs.declared.Refusal.{Refusal}
+use Rattle.refusals.specs.Refusal.{number}
 use Rattle.trace.specs.declared.Record.{Record}
 use Rattle.trace.specs.Trace.{Trace, Answer, next, refused, Accepted, step}
 use Rattle.trace.specs.Record.{record_of}
@@ -54,12 +56,12 @@ module _ (lay : Layout) (file : List ℕ) (x : Rule) (t : Trace) (w line : List 
         pairs = ap (λ (z : Checked × List ℕ). z.1) e;
       }
 
-  pub record RefusedOut (d : ℕ) : Type 0 where
+  pub record RefusedOut (d : Refusal) : Type 0 where
     pub state : c.state ≡ record_of t
-    pub outcome : c.outcome ≡ Refused d
+    pub outcome : c.outcome ≡ Refused (number d)
     pub pairs : v ≡ w
 
-  pub refused_out : (d : ℕ) → step (next t) line ≡ refused d → RefusedOut d
+  pub refused_out : (d : Refusal) → step (next t) line ≡ refused d → RefusedOut d
   unfolding line_after
   refused_out d p =
       let e : ◌≡◌ {A = Checked × List ℕ} (c, v) (line_after lay file x t w (refused d)) = q ∙ ap (line_after lay file x t w) p in
@@ -71,7 +73,7 @@ module _ (lay : Layout) (file : List ℕ) (x : Rule) (t : Trace) (w line : List 
 
   -- by what the line leaves
   pub by_line_lem : {C : Type 0} → ((u : Trace) → step (next t) line ≡ next u → TakenOut u → C)
-      → ((d : ℕ) → step (next t) line ≡ refused d → RefusedOut d → C) → C
+      → ((d : Refusal) → step (next t) line ≡ refused d → RefusedOut d → C) → C
   by_line_lem {C} f g = go (step (next t) line) refl
     where
       go : (a : Answer) → step (next t) line ≡ a → C
@@ -92,9 +94,9 @@ module _ (lay : Layout) (file : List ℕ) (x : Rule) (t : Trace) (w line : List 
         refuses = λ d m. judged-taken (verdict_of u (formula_of file x)) d (sym o.outcome ∙ m);
       })
       (λ d p o. record {
-        taken = λ y m. judged-taken y d (sym m ∙ o.outcome);
+        taken = λ y m. judged-taken y (number d) (sym m ∙ o.outcome);
         refuses = λ b m.
-            let f : Refused d ≡ Refused b = sym o.outcome ∙ m in
-            let g : d ≡ b = cc in
-            record { why = p ∙ ap refused g; state = o.state ∙ sym e; pairs = o.pairs };
+            let f : Refused (number d) ≡ Refused b = sym o.outcome ∙ m in
+            let g : number d ≡ b = cc in
+            record { why = (d, (p, g)); state = o.state ∙ sym e; pairs = o.pairs };
       })

@@ -1,6 +1,8 @@
 -- The single-line call: "One call takes a rule, a record, a work area and one line, and answers the new record and the verdict."
 use Rattle.std.specs.Prelude.{ℕ, ◌≡◌, cond, List, ◌++◌, ltb, length}
 use Rattle.std.proofs.Math.Option.{Option, none, some}
+use Rattle.refusals.specs.declared.Refusal.{Refusal}
+use Rattle.refusals.specs.Refusal.{number}
 use Rattle.trace.specs.declared.Record.{Record}
 use Rattle.trace.specs.Trace.{Trace, Answer, next, refused, Accepted, step}
 use Rattle.trace.specs.Record.{record_of}
@@ -18,6 +20,7 @@ use Rattle.single.specs.declared.Outcome.{Outcome}
 use Rattle.single.specs.declared.Outcome.TheVariants.{Holds, Fails, Refused}
 use Rattle.single.specs.declared.Checked.{Checked}
 use Rattle.reading.specs.Left.{Left}
+use Rattle.reading.specs.Reading.{RefusedAs}
 use Rattle.single.specs.Handed.{HandedBy, Reached}
 
 -- the outcome of a line that is taken
@@ -32,7 +35,7 @@ refusing r c = record { state = r; outcome = Refused c }
 -- a line after the lines that t stands for: "then the line: 11, 12, 13, then 15, 18, 19 or 16, 17". What the line leaves:
 unfoldable pub line_after : Layout → List ℕ → Rule → Trace → List ℕ → Answer → Checked × List ℕ
 line_after lay file x t w (next u) = (record { state = record_of u; outcome = judged (verdict_of u (formula_of file x)) }, work_of lay u w)
-line_after lay file x t w (refused c) = (refusing (record_of t) c, w)
+line_after lay file x t w (refused e) = (refusing (record_of t) (number e), w)
 
 abbrev pub advance_of : Layout → List ℕ → Rule → Trace → List ℕ → List ℕ → Checked × List ℕ
 advance_of lay file x t w line = line_after lay file x t w (step (next t) line)
@@ -64,7 +67,7 @@ pub record TakenLine (lay : Layout) (file : List ℕ) (x : Rule) (log line : Lis
 
 -- the line is refused with c, by its own bytes or by the lines before it, and nothing changes
 pub record RefusedLine (t : Trace) (line : List ℕ) (r : Record) (w : List ℕ) (c : ℕ) (r' : Record) (w' : List ℕ) : Type 0 where
-  pub why : step (next t) line ≡ refused c
+  pub why : RefusedAs c (step (next t) line)
   pub state : r' ≡ r
   pub pairs : w' ≡ w
 

@@ -2,12 +2,12 @@
 -- them up from the front.
 use Prim.Native.Nat.{ℕ, ◌+◌, ◌-◌, ◌≤◌}
 use mathlib.Core.Path.{◌≡◌, refl, ap, sym, ◌∙◌}
-use mathlib.Core.Bool.{Bool, true, false, not, cond}
+use mathlib.Core.Bool.{Bool, true, false, not, cond, ◌&&◌}
 use mathlib.Core.List.{List}
 use native.Mathlib.Omega.{arith}
 use lib.Dec.{eqb, leb}
 use lib.ListN.{length}
-use borrow.Author.Tests.{eq-eqb, ne_eqb, leb-true, eqb-true}
+use borrow.Author.Tests.{eq-eqb, leb-true, eqb-true}
 use Rattle.std.specs.List.{count_by}
 use Rattle.std.proofs.lemmas.List.Recursion.{is_count_by}
 use Rattle.lists.proofs.Cases.{and_left, and_right, either_bool}
@@ -57,56 +57,45 @@ counts_record r n f e =
     }
 
 -- ── whether a tally has the counts of a record ──
-module _ (r : Record) (y z : Tally) (n : ℕ) (k : CountsRecord r n z) where
-  pub lines_differ : (y.lines ≡ z.lines → ⊥) → MatchesRecord r y false
-  unfolding counts? tally_of
-  lines_differ d t e = simp (ne_eqb y.lines t.lines (λ q. d (q ∙ sym (ap (λ (x : Tally). x.lines) (k.meaning t e)))))
+-- four tests, and a fifth
+all_pass : (l b f r m : Bool) → l && (b && (f && (r && true))) ≡ true → m ≡ l && (b && (f && (r && m)))
+all_pass true true true true m e = refl
+all_pass true true true false m e = cc
+all_pass true true false r m e = cc
+all_pass true false f r m e = cc
+all_pass false b f r m e = cc
 
-  module _ (a : y.lines ≡ z.lines) where
-    lines_same : (t : Trace) → r ≡ record_of t → eqb y.lines t.lines ≡ true
-    unfolding tally_of
-    lines_same t e = eq-eqb y.lines t.lines (a ∙ ap (λ (x : Tally). x.lines) (k.meaning t e))
+one_fails : (l b f r m : Bool) → l && (b && (f && (r && true))) ≡ false → false ≡ l && (b && (f && (r && m)))
+one_fails true true true true m e = cc
+one_fails true true true false m e = refl
+one_fails true true false r m e = refl
+one_fails true false f r m e = refl
+one_fails false b f r m e = refl
 
-    pub begun_differ : (y.begun ≡ z.begun → ⊥) → MatchesRecord r y false
-    unfolding counts? tally_of
-    begun_differ d t e = simp (lines_same t e, ne_eqb y.begun (length t.runs) (λ q. d (q ∙ sym (ap (λ (x : Tally). x.begun) (k.meaning t e)))))
+abbrev equal? : Tally → Tally → Bool
+equal? y z =
+    eqb y.lines z.lines && (eqb y.begun z.begun && (eqb y.finished z.finished && (eqb y.running z.running && eqb y.failing z.failing)))
 
-    module _ (b : y.begun ≡ z.begun) where
-      begun_same : (t : Trace) → r ≡ record_of t → eqb y.begun (length t.runs) ≡ true
-      unfolding tally_of
-      begun_same t e = eq-eqb y.begun (length t.runs) (b ∙ ap (λ (x : Tally). x.begun) (k.meaning t e))
+module _ (r : Record) (y z : Tally) (k : CountsRecord r y.failing z) (d : Bool) (q : d ≡ equal? y z) where
+  tests_of : (t : Trace) → r ≡ record_of t
+      → eqb y.lines t.lines
+      && (eqb y.begun (length t.runs) && (eqb y.finished (finished_runs t.runs) && (eqb y.running (length t.runs - finished_runs t.runs) && true)))
+      ≡ d
+  unfolding tally_of
+  tests_of t e = sym (q ∙ (ap (equal? y) (k.meaning t e) ∙ simp (eq-eqb y.failing y.failing refl)))
 
-      pub finished_differ : (y.finished ≡ z.finished → ⊥) → MatchesRecord r y false
-      unfolding counts? tally_of
-      finished_differ d t e =
-          simp (lines_same t e, begun_same t e, ne_eqb y.finished (finished_runs t.runs) (λ q. d (q ∙ sym (ap (λ (x : Tally). x.finished) (k.meaning t e)))))
+  pub counts_same : d ≡ true → MatchesRecord r y (leb y.failing y.lines)
+  unfolding counts?
+  counts_same s t e =
+      all_pass (eqb y.lines t.lines) (eqb y.begun (length t.runs)) (eqb y.finished (finished_runs t.runs))
+      (eqb y.running (length t.runs - finished_runs t.runs)) (leb y.failing y.lines) (tests_of t e ∙ s)
 
-      module _ (f : y.finished ≡ z.finished) where
-        finished_same_count : (t : Trace) → r ≡ record_of t → eqb y.finished (finished_runs t.runs) ≡ true
-        unfolding tally_of
-        finished_same_count t e = eq-eqb y.finished (finished_runs t.runs) (f ∙ ap (λ (x : Tally). x.finished) (k.meaning t e))
-
-        pub running_differ : (y.running ≡ z.running → ⊥) → MatchesRecord r y false
-        unfolding counts? tally_of
-        running_differ d t e =
-            simp (
-              lines_same t e,
-              begun_same t e,
-              finished_same_count t e,
-              ne_eqb y.running (length t.runs - finished_runs t.runs) (λ q. d (q ∙ sym (ap (λ (x : Tally). x.running) (k.meaning t e)))),
-            )
-
-        pub counts_same : y.running ≡ z.running → MatchesRecord r y (leb y.failing y.lines)
-        unfolding counts? tally_of
-        counts_same o t e =
-            simp (
-              lines_same t e,
-              begun_same t e,
-              finished_same_count t e,
-              eq-eqb y.running (length t.runs - finished_runs t.runs) (o ∙ ap (λ (x : Tally). x.running) (k.meaning t e)),
-            )
-
-pub ruleset matching = (lines_differ, begun_differ, finished_differ, running_differ, counts_same)
+  pub counts_differ : d ≡ false → MatchesRecord r y d
+  unfolding counts?
+  counts_differ s t e =
+      s
+      ∙ one_fails (eqb y.lines t.lines) (eqb y.begun (length t.runs)) (eqb y.finished (finished_runs t.runs))
+      (eqb y.running (length t.runs - finished_runs t.runs)) (leb y.failing y.lines) (tests_of t e ∙ s)
 
 -- ── the tally after a line ──
 module _ (c : Checked) (y : Tally) where

@@ -9,6 +9,7 @@ use native.Mathlib.Omega.{arith}
 use lib.ListN.{length}
 use borrow.Author.Tests.{lt-ltb, le-ltb, not-true, not-false}
 use Rattle.lists.specs.Tells.{Tells}
+use Rattle.refusals.specs.Refusal.{number}
 use Rattle.trace.specs.declared.Record.{Record}
 use Rattle.trace.specs.Trace.{Trace}
 use Rattle.trace.proofs.Bounds.{accepted-bounded}
@@ -60,8 +61,8 @@ module _ (lay : Layout) (file : List ℕ) (x : Rule) (r : Record) (y : Tally) (w
       let b = f.takes z (verdict_of z (formula_of file x)) o.state o.outcome in
       (λ i. (b i, o.pairs i)) ∙ ap (tallied_after lay file x t y w) (sym j))
       (λ z j o.
-      let b = f.refuses z o.outcome in
-      (λ i. (b i, o.pairs i)) ∙ ((λ i. (refusing_with (o.state i) y z, w)) ∙ ap (tallied_after lay file x t y w) (sym j))))
+      let b = f.refuses (number z) o.outcome in
+      (λ i. (b i, o.pairs i)) ∙ ((λ i. (refusing_with (o.state i) y (number z), w)) ∙ ap (tallied_after lay file x t y w) (sym j))))
 
 -- ── the ways out ──
 module _ (lay : Layout) (file : List ℕ) (r : Record) (y : Tally) (w line : List ℕ) (a : Tallied) where

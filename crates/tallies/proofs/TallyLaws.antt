@@ -11,6 +11,7 @@ use lib.ListN.{length}
 use borrow.Author.Tests.{le-ltb}
 use Rattle.lists.proofs.Cases.{either_bool}
 use Rattle.labels.specs.Label.{label_of}
+use Rattle.refusals.specs.Refusal.{number}
 use Rattle.lines.specs.Line.{event_of}
 use Rattle.lines.specs.Log.{lines_of}
 use Rattle.trace.specs.declared.Record.{Record}
@@ -129,12 +130,12 @@ module _ (lay : Layout) (file : List ℕ) (r : Record) (y : Tally) (w line : Lis
               kept = λ d m. judged-taken f d (sym o ∙ m);
             }
         go (refused d) q e =
-            let o : a.outcome ≡ Refused d = ap (λ (z : Tallied × List ℕ). z.0.outcome) e in
+            let o : a.outcome ≡ Refused (number d) = ap (λ (z : Tallied × List ℕ). z.0.outcome) e in
             record {
               single = line_part_means;
-              counts = λ b m. judged-taken b d (sym m ∙ o);
-              failing = λ b m. judged-taken b d (sym m ∙ o);
-              goes_on = λ s b m z k. judged-taken b d (sym m ∙ o);
+              counts = λ b m. judged-taken b (number d) (sym m ∙ o);
+              failing = λ b m. judged-taken b (number d) (sym m ∙ o);
+              goes_on = λ s b m z k. judged-taken b (number d) (sym m ∙ o);
               kept = λ b m. ap (λ (z : Tallied × List ℕ). z.0.tally) e;
             }
 

@@ -1,6 +1,7 @@
 -- The single-line call with a tally: "lines, runs begun, finished, open, failing lines".
 use Rattle.std.specs.Prelude.{ℕ, ◌+◌, ◌-◌, ◌≡◌, Bool, true, ◌&&◌, cond, List, [], ◌∷◌, ◌++◌, eqb, leb, ltb, length}
 use Rattle.std.proofs.Math.Option.{Option, none, some}
+use Rattle.refusals.specs.Refusal.{number}
 use Rattle.lines.specs.Event.{Event, begins, ends, faulty}
 use Rattle.lines.specs.Line.{event_of}
 use Rattle.lines.specs.Log.{lines_of}
@@ -101,7 +102,7 @@ unfoldable pub tallied_after : Layout → List ℕ → Rule → Trace → Tally 
 tallied_after lay file x t y w (next u) =
     let v = verdict_of u (formula_of file x) in
     (record { state = record_of u; tally = tally_of u (y.failing + failed v); outcome = judged v }, work_of lay u w)
-tallied_after lay file x t y w (refused c) = (refusing_with (record_of t) y c, w)
+tallied_after lay file x t y w (refused e) = (refusing_with (record_of t) y (number e), w)
 
 -- 21, then 24, then the line
 unfoldable pub tallied_state : Layout → List ℕ → Rule → Record → Tally → List ℕ → List ℕ → Option Trace → Tallied × List ℕ

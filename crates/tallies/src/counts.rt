@@ -55,20 +55,7 @@ fn counts_match(r: Record, y: Tally) -> bool
     requires { r.runs.count ≤ max_runs }
     ensures { MatchesRecord r y result }
 {
-    let z = tally_of(r, y.failing);
-    if y.lines != z.lines {
-        return false;
-    }
-    if y.begun != z.begun {
-        return false;
-    }
-    if y.finished != z.finished {
-        return false;
-    }
-    if y.running != z.running {
-        return false;
-    }
-    y.failing <= y.lines
+    y == tally_of(r, y.failing) && y.failing <= y.lines
 }
 
 // The answer with the tally after a line: the same tally where the line is refused.

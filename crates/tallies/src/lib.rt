@@ -14,7 +14,7 @@ use trace::Record;
 mod counts;
 
 // Counts over accepted lines: lines, runs begun, finished and open, and lines whose verdict fails.
-#[derive(Clone, Copy)]
+#[derive(Clone, Copy, PartialEq, Eq)]
 pub struct Tally {
     pub lines: u32,
     pub begun: u32,
@@ -32,6 +32,7 @@ pub struct Tallied {
 }
 
 // One line on a record and a work area in the layout, with a rule file and a tally, which is updated where the line is taken.
+// Kept: the record, the tally and the buffers are parameters, as of the call for C, whose contract names each of them.
 pub fn check_line_tallied(
     layout: Layout,
     file: &[u8],

@@ -4,22 +4,23 @@
 // and writes what happens to each. `numbered_line` makes one line of many.
 #![tactic(auto)]
 
-use lines::Next;
+use lines::Span;
+use refusals::Refusal;
 use std::io::Stdout;
-use trace::{Record, StepOutcome, Stepped};
+use trace::{Record, RunNo, Stepped};
 
 // The answer to a line that is refused.
-fn refused(r: Record, code: u8) -> Stepped {
+fn refused(r: Record, why: Refusal) -> Stepped {
     Stepped {
         state: r,
-        outcome: StepOutcome::Refused(code),
+        outcome: Err(why),
     }
 }
 
 // Takes one line, given with its LF, on a record that accepted lines leave; 21 on any other.
 pub fn take_line(r: Record, line: &[u8]) -> Stepped {
     if !replay::is_record(r) {
-        return refused(r, 21);
+        return refused(r, Refusal::NoRecord);
     }
     let said = reading::said_in(line);
     steps::take_event(r, said)
@@ -32,36 +33,28 @@ fn take_part(r: Record, log: &[u8], start: usize, end: usize) -> Stepped {
             return take_line(r, &log[start..end]);
         }
     }
-    refused(r, 11)
+    refused(r, Refusal::LineForm)
 }
 
 // Takes what a log reader hands out.
-pub fn take_next(r: Record, log: &[u8], n: Next) -> Stepped {
+pub fn take_next(r: Record, log: &[u8], n: Option<Result<Span, Refusal>>) -> Stepped {
     match n {
-        Next::Line { start, end } => take_part(r, log, start, end),
-        Next::Refused(code) => refused(r, code),
-        Next::Done => refused(r, 11),
+        Some(Ok(line)) => take_part(r, log, line.start, line.end),
+        Some(Err(why)) => refused(r, why),
+        None => refused(r, Refusal::LineForm),
     }
 }
 
 // Writes what happened to a line.
-fn write_outcome(out: Stdout, o: StepOutcome) {
+fn write_outcome(out: Stdout, o: Result<RunNo, Refusal>) {
     match o {
-        StepOutcome::Taken(k) => {
+        Ok(k) => {
             test_text::write(out, b"taken run ");
             test_text::write_number(out, k.0 as u64);
         }
-        StepOutcome::Refused(code) => test_text::write_refusal(out, code),
+        Err(why) => test_text::write_refusal(out, u8::from(why)),
     }
     test_text::write(out, b"\n");
-}
-
-// Whether a line was taken.
-fn was_taken(o: StepOutcome) -> bool {
-    match o {
-        StepOutcome::Taken(_) => true,
-        StepOutcome::Refused(_) => false,
-    }
 }
 
 // The record after the lines of a log. Kind `g` writes each, and stops at the first that is refused; `q` writes none; any other writes each.
@@ -71,7 +64,7 @@ pub fn read_from(out: Stdout, r: Record, log: &[u8], kind: u8) -> Record {
     let mut left: usize = 256;
     while 0 < left {
         let n = lines::next_line(log, place);
-        if let Next::Done = n {
+        if n.is_none() {
             return q;
         }
         let a = take_next(q, log, n);
@@ -80,7 +73,7 @@ pub fn read_from(out: Stdout, r: Record, log: &[u8], kind: u8) -> Record {
         if kind != b'q' {
             write_outcome(out, o);
         }
-        if !was_taken(o) {
+        if o.is_err() {
             if kind == b'g' {
                 return q;
             }

@@ -2,10 +2,10 @@
 ghost use Rattle.rules.specs.Rules.{Taken};
 
 use super::verdicts;
-use lines::Next;
+use refusals::Refusal;
 use rules::Rule;
 use std::io::Stdout;
-use trace::{Record, StepOutcome};
+use trace::{Record, RunNo};
 
 // Writes the verdict after the lines that left a record: H or F.
 fn write_last(out: Stdout, file: &[u8], x: Rule, r: Record)
@@ -18,16 +18,16 @@ fn write_last(out: Stdout, file: &[u8], x: Rule, r: Record)
 }
 
 // Writes what a line leads to, and answers whether it was taken.
-fn show_line(out: Stdout, file: &[u8], x: Rule, r: Record, o: StepOutcome) -> bool
+fn show_line(out: Stdout, file: &[u8], x: Rule, r: Record, o: Result<RunNo, Refusal>) -> bool
     requires { Taken file.now x }
 {
     match o {
-        StepOutcome::Taken(_) => {
+        Ok(_) => {
             write_last(out, file, x, r);
             true
         }
-        StepOutcome::Refused(code) => {
-            test_text::write_refusal(out, code);
+        Err(why) => {
+            test_text::write_refusal(out, u8::from(why));
             false
         }
     }
@@ -43,7 +43,7 @@ pub fn show_log(out: Stdout, file: &[u8], x: Rule, log: &[u8])
     let mut left: usize = 256;
     while 0 < left {
         let n = lines::next_line(log, place);
-        if let Next::Done = n {
+        if n.is_none() {
             return;
         }
         let a = test_steps::take_next(r, log, n);

@@ -1,5 +1,6 @@
 -- One answer, from what the call on a line that is lent a tally answers: on the record of an accepted log with that log's tally it is
 -- neither 20 nor 21 nor 24, so the line decides, and its text is the next piece of the report.
+use Rattle.std.specs.Prelude.{Some, Err}
 use Prim.Native.Nat.{ℕ, ◌+◌, ◌-◌, ◌≤◌}
 use mathlib.Core.Path.{◌≡◌, refl, sym, subst, ap, ◌∙◌}
 use mathlib.Core.Bool.{true, false}
@@ -11,9 +12,11 @@ use lib.ListN.{length, take, drop}
 use lib.Seq.{length-take-le, take-append_seam}
 use borrow.Author.Tests.{le-ltb}
 use Rattle.lists.specs.Lists.{has?}
-use Rattle.lines.specs.declared.Next.TheVariants as Next
+use Rattle.refusals.specs.declared.Refusal.TheVariants.{LineForm}
+use Rattle.refusals.specs.declared.Refusal.{Refusal}
+use Rattle.refusals.specs.Refusal.{number}
 use Rattle.lines.specs.Line.{event_of}
-use Rattle.lines.specs.Log.{lines_of, next_line}
+use Rattle.lines.specs.Log.{lines_of, next_line, Next, handed}
 use Rattle.lines.proofs.Log.{line_is_handed_out, refused_line_is_faulty}
 use Rattle.trace.specs.declared.Record.{Record}
 use Rattle.trace.specs.Trace.{Trace, next, refused, step}
@@ -147,15 +150,15 @@ module _ (file : List ℕ) (r : Record) (y : Tally) (w line : List ℕ) (a : Tal
                 ∙ (text_taken file x t y.failing line (lines_of rest) u p ∙ (λ i. sym said i ++ text_from file x u (sym failing-then i) (lines_of rest)));
           }
 
-    module _ (c : ℕ) (p : step (next t) line ≡ refused c) where
-      none : ◌≡◌ {A = Tallied × List ℕ} (a, w') (refusing_with (record_of t) y c, w)
+    module _ (c : Refusal) (p : step (next t) line ≡ refused c) where
+      none : ◌≡◌ {A = Tallied × List ℕ} (a, w') (refusing_with (record_of t) y (number c), w)
       unfolding tallied_after
       none = after ∙ ap (tallied_after Half file x t y w) p
 
       tally_kept : a.tally ≡ y
       tally_kept = ap (λ (z : Tallied × List ℕ). z.0.tally) none
 
-      outcome_kept : a.outcome ≡ Refused c
+      outcome_kept : a.outcome ≡ Refused (number c)
       outcome_kept = ap (λ (z : Tallied × List ℕ). z.0.outcome) none
 
       work_kept : w' ≡ w
@@ -180,8 +183,8 @@ module _ (file : List ℕ) (r : Record) (y : Tally) (w line : List ℕ) (a : Tal
       few_kept = omega (arith, ap (λ (z : Tally). z.lines) tally_kept, lines_same, (accepted-bounded log t l.accepted).lines)
 
       -- of an input that begins with these bytes the first line is refused with the same number
-      handed_refused : (k : ℕ) (rest : List ℕ) → next_line (line ++ rest) 0 ≡ Next.Line 0 (length line)
-          → text_from file x t k (lines_of (line ++ rest)) ≡ refused_text (t.lines + 1) c ++ tally_text (tally_of t k)
+      handed_refused : (k : ℕ) (rest : List ℕ) → next_line (line ++ rest) 0 ≡ handed 0 (length line)
+          → text_from file x t k (lines_of (line ++ rest)) ≡ refused_text (t.lines + 1) (number c) ++ tally_text (tally_of t k)
       handed_refused k rest q =
           let h = line_is_handed_out (line ++ rest) 0 0 (length line) q in
           let n : length line - 0 ≡ length line = omega arith in
@@ -189,26 +192,26 @@ module _ (file : List ℕ) (r : Record) (y : Tally) (w line : List ℕ) (a : Tal
           ap (text_from file x t k) (h.lines ∙ ap (λ (z : List ℕ). z ∷ lines_of (drop (length line) (line ++ rest))) e')
           ∙ text_refused file x t k line (lines_of (drop (length line) (line ++ rest))) c p
 
-      spoilt_refused : (k : ℕ) (rest : List ℕ) → next_line (line ++ rest) 0 ≡ Next.Refused 11 → has? 10 line ≡ false
-          → text_from file x t k (lines_of (line ++ rest)) ≡ refused_text (t.lines + 1) c ++ tally_text (tally_of t k)
+      spoilt_refused : (k : ℕ) (rest : List ℕ) → next_line (line ++ rest) 0 ≡ Some (Err LineForm) → has? 10 line ≡ false
+          → text_from file x t k (lines_of (line ++ rest)) ≡ refused_text (t.lines + 1) (number c) ++ tally_text (tally_of t k)
       unfolding event_of
       spoilt_refused k rest q f =
-          let sp = refused_line_is_faulty (line ++ rest) 0 11 q in
-          let same : refused c ≡ refused 11 = sym p ∙ line_faulty t line 11 (simp f) in
-          let n : c ≡ 11 = cc in
+          let sp = refused_line_is_faulty (line ++ rest) 0 LineForm q in
+          let same : refused c ≡ refused LineForm = sym p ∙ line_faulty t line LineForm (simp f) in
+          let n : c ≡ LineForm = cc in
           ap (text_from file x t k) sp.lines
-          ∙ (text_refused file x t k sp.line sp.later 11 (line_faulty t sp.line 11 sp.says)
-          ∙ ap (λ (m : ℕ). refused_text (t.lines + 1) m ++ tally_text (tally_of t k)) (sym n))
+          ∙ (text_refused file x t k sp.line sp.later LineForm (line_faulty t sp.line LineForm sp.says)
+          ∙ ap (λ (m : Refusal). refused_text (t.lines + 1) (number m) ++ tally_text (tally_of t k)) (sym n))
 
       rest_refused : (k : ℕ) (rest : List ℕ) → FirstBytes line rest
-          → text_from file x t k (lines_of (line ++ rest)) ≡ refused_text (t.lines + 1) c ++ tally_text (tally_of t k)
+          → text_from file x t k (lines_of (line ++ rest)) ≡ refused_text (t.lines + 1) (number c) ++ tally_text (tally_of t k)
       rest_refused k rest f = ⊎_elim (λ q. handed_refused k rest q) (λ q. spoilt_refused k rest q.0 q.1) f
 
       ends : (n : ℕ) (text' : List ℕ) → take n text' ≡ outcome_text a.tally.lines a.outcome
-          → Ends file x t y line (record { state = a.state; tally = a.tally; outcome = a.outcome; size = n }) (take n text') c
+          → Ends file x t y line (record { state = a.state; tally = a.tally; outcome = a.outcome; size = n }) (take n text') (number c)
       ends n text' s =
           let m : a.tally.lines ≡ t.lines = ap (λ (z : Tally). z.lines) tally_kept ∙ lines_same in
-          let said : take n text' ≡ refused_text (t.lines + 1) c = s ∙ (λ i. outcome_text (m i) (outcome_kept i)) in
+          let said : take n text' ≡ refused_text (t.lines + 1) (number c) = s ∙ (λ i. outcome_text (m i) (outcome_kept i)) in
           record {
             text = said;
             tally = tally_kept;

@@ -14,21 +14,20 @@ use Rattle.input.specs.declared.Filled.{Filled}
 use Rattle.input.proofs.Answers.{counts-within}
 use Rattle.lists.specs.Lists.{has?}
 use Rattle.lists.proofs.Cases.{either_eq, no_both}
-use Rattle.lines.specs.declared.Next.TheVariants as Next
-use Rattle.lines.specs.Log.{scan, next_line}
+use Rattle.lines.specs.Log.{scan, next_line, Next, handed}
 use Rattle.watch.specs.Watch.{OneLine, LineRead}
 
 -- a scan goes to the first LF
-scan_to : (m start at : ℕ) (a rest : List ℕ) → has? 10 a ≡ false → length a < m → scan m start at (a ++ (10 ∷ rest)) ≡ Next.Line start (at + length a + 1)
+scan_to : (m start at : ℕ) (a rest : List ℕ) → has? 10 a ≡ false → length a < m → scan m start at (a ++ (10 ∷ rest)) ≡ handed start (at + length a + 1)
 scan_to zero start at a rest f h = absurd (omega arith)
-scan_to (suc m) start at [] rest f h = ap (Next.Line start) (let z : at + 1 ≡ at + 0 + 1 = omega arith in z)
+scan_to (suc m) start at [] rest f h = ap (handed start) (let z : at + 1 ≡ at + 0 + 1 = omega arith in z)
 scan_to (suc m) start at (b ∷ a) rest f h =
     either_eq b 10
     (λ q. let g : true ≡ false = simp (eq-eqb b 10 q) at f in no_both g)
     (λ q.
     let g : has? 10 a ≡ false = simp (ne_eqb b 10 q) at f in
     let n : at + 1 + length a + 1 ≡ at + suc (length a) + 1 = omega arith in
-    simp (ne_eqb b 10 q) (scan_to m start (at + 1) a rest g (omega arith) ∙ ap (Next.Line start) n))
+    simp (ne_eqb b 10 q) (scan_to m start (at + 1) a rest g (omega arith) ∙ ap (handed start) n))
 
 -- bytes without an LF, and one more
 more_free : (a : List ℕ) (b : ℕ) → has? 10 a ≡ false → (b ≡ 10 → ⊥) → has? 10 (a ++ (b ∷ [])) ≡ false
@@ -38,7 +37,7 @@ more_free (x ∷ a) b f n =
     (λ q. let g : true ≡ false = simp (eq-eqb x 10 q) at f in no_both g)
     (λ q. let g : has? 10 a ≡ false = simp (ne_eqb x 10 q) at f in simp (ne_eqb x 10 q) (more_free a b g n))
 
-more-ends : (a : List ℕ) (b : ℕ) → has? 10 a ≡ false → length a < 40 → b ≡ 10 → (rest : List ℕ) → next_line ((a ++ (b ∷ [])) ++ rest) 0 ≡ Next.Line 0 (length (a ++ (b ∷ [])))
+more-ends : (a : List ℕ) (b : ℕ) → has? 10 a ≡ false → length a < 40 → b ≡ 10 → (rest : List ℕ) → next_line ((a ++ (b ∷ [])) ++ rest) 0 ≡ handed 0 (length (a ++ (b ∷ [])))
 unfolding next_line
 more-ends a b f h e rest =
     let l : List ℕ = (a ++ (b ∷ [])) ++ rest in
@@ -46,7 +45,7 @@ more-ends a b f h e rest =
     let n : length (a ++ (b ∷ [])) ≡ length a + 1 = length-append a (b ∷ []) in
     let p : 0 < length l = omega (arith, length-append (a ++ (b ∷ [])) rest, n) in
     let m : 0 + length a + 1 ≡ length (a ++ (b ∷ [])) = omega (arith, n) in
-    simp (lt-ltb 0 (length l) p) (ap (scan 40 0 0) is ∙ (scan_to 40 0 0 a rest f h ∙ ap (Next.Line 0) m))
+    simp (lt-ltb 0 (length l) p) (ap (scan 40 0 0) is ∙ (scan_to 40 0 0 a rest f h ∙ ap (handed 0) m))
 
 -- one byte more in a buffer
 module _ (n : ℕ) (xs : List ℕ) (b : ℕ) (h : n < length xs) where

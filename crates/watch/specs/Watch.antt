@@ -1,10 +1,12 @@
 -- Watching a log: its lines are answered one by one, with the text that the check prints for them.
-use Rattle.std.specs.Prelude.{ℕ, ◌+◌, ◌≤◌, ◌≡◌, Bool, true, false, List, [], ◌++◌, length, take, ◌⊎◌}
+use Rattle.std.specs.Prelude.{ℕ, ◌+◌, ◌≤◌, ◌≡◌, Bool, true, false, List, [], ◌++◌, length, take, ◌⊎◌, Some, Err}
+use Rattle.refusals.specs.declared.Refusal.TheVariants.{LineForm}
+use Rattle.refusals.specs.declared.Refusal.{Refusal}
+use Rattle.refusals.specs.Refusal.{number}
 use Rattle.input.specs.Counts.{IsPrefixLen}
 use Rattle.input.specs.declared.Filled.{Filled}
 use Rattle.lists.specs.Lists.{has?}
-use Rattle.lines.specs.declared.Next.TheVariants as Next
-use Rattle.lines.specs.Log.{lines_of, next_line}
+use Rattle.lines.specs.Log.{lines_of, next_line, Next, handed}
 use Rattle.trace.specs.declared.Record.{Record}
 use Rattle.trace.specs.Trace.{Trace, next, refused, step}
 use Rattle.pairs.specs.declared.Layout.TheVariants.{Half}
@@ -52,13 +54,13 @@ pub record Watching (file : List ℕ) (r : Record) (y : Tally) (w : List ℕ) : 
 -- out; or it answers 11, and there is no LF among them.
 abbrev pub FirstBytes : List ℕ → List ℕ → Type 0
 FirstBytes line rest =
-    (next_line (line ++ rest) 0 ≡ Next.Line 0 (length line))
-    ⊎ ((next_line (line ++ rest) 0 ≡ Next.Refused 11) × (has? 10 line ≡ false))
+    (next_line (line ++ rest) 0 ≡ handed 0 (length line))
+    ⊎ ((next_line (line ++ rest) 0 ≡ Some (Err LineForm)) × (has? 10 line ≡ false))
 
 -- What is read for one line: bytes that the log reader hands out as a line, whatever comes after them; or bytes without
 -- an LF. There are 40 of these, or the input has ended (`bytes_are_first`).
 abbrev pub OneLine : List ℕ → Type 0
-OneLine s = ((rest : List ℕ) → next_line (s ++ rest) 0 ≡ Next.Line 0 (length s)) ⊎ (has? 10 s ≡ false)
+OneLine s = ((rest : List ℕ) → next_line (s ++ rest) 0 ≡ handed 0 (length s)) ⊎ (has? 10 s ≡ false)
 
 abbrev pub LineRead : Filled → List ℕ → Type 0
 LineRead (Filled.Bytes n) xs = IsPrefixLen n xs × OneLine (take n xs)
@@ -97,7 +99,7 @@ pub record AnswersLine (file : List ℕ) (r : Record) (y : Tally) (w line : List
   pub meaning : (x : Rule) → rule_of file ≡ Ok x
       → (log : List ℕ) (t : Trace) → Left Half log t r w → y ≡ tally_after file x log t
       → ((u : Trace) → step (next t) line ≡ next u → GoesOn file x log t y line a w' (take a.size text) u)
-      × ((c : ℕ) → step (next t) line ≡ refused c → Ends file x t y line a (take a.size text) c)
+      × ((c : Refusal) → step (next t) line ≡ refused c → Ends file x t y line a (take a.size text) (number c))
 
 -- at the end of the input the line of the tally is all that is left of the report
 pub record AnswersEnd (y : Tally) (text : List ℕ) (n : ℕ) : Type 0 where

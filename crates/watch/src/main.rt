@@ -239,6 +239,7 @@ fn watch_lines(streams: Streams, file: &[u8], s: Watch, work: &mut [u8]) -> Watc
     ensures { Watching file.now result.state result.tally work.new }
 {
     let mut last = s;
+    // Kept: no count, since what comes of each line says whether another is read.
     while is_on(last) {
         last = watch_line(streams, file, last, work);
     }

@@ -1,6 +1,7 @@
 -- "the first 8,192 bytes decide every answer": accepted lines fill at most 5,248 bytes, and the next line is looked for in 40 bytes
 -- after them. So at each place that the reading reaches, the log and its first 8,192 bytes show the same line, the same refusal or
 -- the same end.
+use Rattle.std.specs.Prelude.{Some, None, Ok, Err}
 use Prim.Native.Nat.{ℕ, zero, suc, ◌+◌, ◌-◌, ◌<◌, ◌≤◌}
 use mathlib.Core.Path.{◌≡◌, refl, ap, sym, ◌∙◌, subst}
 use mathlib.Core.Bool.{cond, ◌||◌}
@@ -11,10 +12,10 @@ use lib.ListN.{length, take, drop, set, length-take, take-append-drop}
 use lib.Seq.{take-add, take-take, take_all, take-append-add, take-nil, drop-nil}
 use borrow.Author.Tests.{lt-ltb, le-ltb}
 use Rattle.lists.proofs.Cases.{either_lt}
+use Rattle.refusals.specs.declared.Refusal.TheVariants.{LineForm}
 use Rattle.lines.specs.Event.{faulty}
 use Rattle.lines.specs.Line.{event_of}
-use Rattle.lines.specs.Log.{lines_of, scan, next_line}
-use Rattle.lines.specs.declared.Next.{Next}
+use Rattle.lines.specs.Log.{lines_of, scan, next_line, Next, handed}
 use Rattle.lines.proofs.Log.{Handed, line_is_handed_out, done_means_no_lines, Spoilt, refused_line_is_faulty}
 use Rattle.trace.specs.Trace.{Trace, no_trace, Accepted}
 use Rattle.trace.proofs.Grown.{taken_grows, no_bytes}
@@ -53,7 +54,7 @@ scan-cut zero start at m s h = refl
 scan-cut (suc n) start at zero s h = absurd (omega arith)
 scan-cut (suc n) start at (suc m) [] h = refl
 scan-cut (suc n) start at (suc m) (b ∷ s) h =
-    ap (λ (r : Next). cond (eqb b 10) (Next.Line start (at + 1)) r) (scan-cut n start (at + 1) m s (omega arith))
+    ap (λ (r : Next). cond (eqb b 10) (handed start (at + 1)) r) (scan-cut n start (at + 1) m s (omega arith))
 
 module _ (log : List ℕ) where
   abbrev cut : List ℕ
@@ -83,10 +84,10 @@ module _ (log : List ℕ) where
 
   module _ (lay : Layout) (file : List ℕ) (x : Rule) (w : List ℕ) where
     -- a first line that is refused with 11
-    faulty-from : (t : Trace) (out : List ℕ) (ls : List (List ℕ)) (l : List ℕ) (later : List (List ℕ)) → ls ≡ l ∷ later → event_of l ≡ faulty 11
+    faulty-from : (t : Trace) (out : List ℕ) (ls : List (List ℕ)) (l : List ℕ) (later : List (List ℕ)) → ls ≡ l ∷ later → event_of l ≡ faulty LineForm
         → lines_from lay file x t ls w out ≡ (ended t (Refused 11 (t.lines + 1)), work_of lay t w, out)
     faulty-from t out ls l later e says =
-        ap (λ (k : List (List ℕ)). lines_from lay file x t k w out) e ∙ from_refused lay file x t l later w out 11 (line_faulty t l 11 says)
+        ap (λ (k : List (List ℕ)). lines_from lay file x t k w out) e ∙ from_refused lay file x t l later w out LineForm (line_faulty t l LineForm says)
 
     -- from a place that is reached, both logs give the same; n places at most are left
     same_from : (n p : ℕ) (t : Trace) (out : List ℕ) → length log - p < n → p ≤ length log → Accepted (take p log) t
@@ -101,7 +102,9 @@ module _ (log : List ℕ) where
             → lines_from lay file x u (lines_of (drop e log)) w (set out t.lines (verdict_byte (verdict_of u (formula_of file x))))
             ≡ lines_from lay file x u (lines_of (drop e cut)) w (set out t.lines (verdict_byte (verdict_of u (formula_of file x)))))
             → lines_from lay file x t (lines_of (drop p log)) w out ≡ lines_from lay file x t (lines_of (drop p cut)) w out
-        go low (Next.Line s e) q rest =
+        go low (Some (Ok span)) q rest =
+            let s : ℕ = span.start in
+            let e : ℕ = span.end in
             let f : Handed log p s e = line_is_handed_out log p s e q in
             let g : Handed cut p s e = line_is_handed_out cut p s e (next_cut p low ∙ q) in
             let l : List ℕ = line_between log p e in
@@ -116,12 +119,12 @@ module _ (log : List ℕ) where
             ∙ sym (from-taken lay file x t l (lines_of (drop e cut)) w out u k)))
             (λ c k. from_refused lay file x t l (lines_of (drop e log)) w out c k ∙ sym (from_refused lay file x t l (lines_of (drop e cut)) w out c k))
             ∙ both _ _ (sym b))
-        go low (Next.Refused c) q rest =
+        go low (Some (Err c)) q rest =
             let f : Spoilt log p c = refused_line_is_faulty log p c q in
             let g : Spoilt cut p c = refused_line_is_faulty cut p c (next_cut p low ∙ q) in
             faulty-from t out (lines_of (drop p log)) f.line f.later f.lines f.says
             ∙ sym (faulty-from t out (lines_of (drop p cut)) g.line g.later g.lines g.says)
-        go low Next.Done q rest =
+        go low None q rest =
             ap (λ (k : List (List ℕ)). lines_from lay file x t k w out) (done_means_no_lines log p q ∙ sym (done_means_no_lines cut p (next_cut p low ∙ q)))
 
 -- THE LAW: nothing past the first 8,192 bytes of a log changes an answer.

@@ -8,7 +8,8 @@ use native.Mathlib.Numerals.{add-one}
 use lib.Dec.{eqb}
 use lib.ListN.{length, get_or, take, drop, length-drop}
 use lib.Seq.{drop-cons, take-nil, length-take-le}
-use borrow.Author.Tests.{eq-eqb, ne_eqb}
+use borrow.Author.Tests.{ne_eqb}
+use mir.Val.{bool_byte}
 use Rattle.lists.proofs.Cases.{either_bool, either_lt}
 use Rattle.lines.specs.Log.{glue, lines_of, flat}
 use Rattle.whole_log.specs.Written.{EndsLines}
@@ -48,13 +49,6 @@ end_bytes (b ∷ bs) (suc n) =
     (λ e. let z : suc n - 1 ≡ n = omega arith in simp e (ap (λ (k : ℕ). b ∷ flat (take k (lines_of bs))) z))
     (λ e. let z : suc n - 0 ≡ suc n = omega arith in simp e (ap (λ (k : ℕ). b ∷ flat (take k (lines_of bs))) z ∙ sym (glued b n (lines_of bs)))))
 
--- ── one byte ──
-pub ends_it : (b : ℕ) → b ≡ 10 → ◌≡◌ {A = ℕ} 1 (cond (eqb b 10) 1 0)
-ends_it b e = simp (eq-eqb b 10 e)
-
-pub goes_on : (b : ℕ) → (b ≡ 10 → ⊥) → ◌≡◌ {A = ℕ} 0 (cond (eqb b 10) 1 0)
-goes_on b d = simp (ne_eqb b 10 d)
-
 -- ── the loop ──
 pub record Reached (log : List ℕ) (n passed place : ℕ) : Type 0 where
   pub within : place ≤ length log
@@ -64,14 +58,15 @@ module _ (log : List ℕ) (n : ℕ) where
   pub reached_none : Reached log n 0 0
   reached_none = let z : n - 0 ≡ n = omega arith in record { within = omega arith; left = omega (arith, ap (end_of log) z) }
 
-  pub reached_more : (passed place k : ℕ) → passed ≤ n → (passed ≡ n → ⊥) → place < length log → k ≡ cond (eqb (get_or log place 0) 10) 1 0 → Reached log n passed place → Reached log n (passed + k) (place + 1)
+  pub reached_more : (passed place k : ℕ) → passed ≤ n → (passed ≡ n → ⊥) → place < length log → k ≡ bool_byte (eqb (get_or log place 0) 10) → Reached log n passed place → Reached log n (passed + k) (place + 1)
   reached_more passed place k l d h e r =
       let b : ℕ = get_or log place 0 in
       let rest : List ℕ = drop (suc place) log in
       let m : ℕ = n - passed in
       let next : end_of (drop place log) m ≡ suc (end_of rest (m - cond (eqb b 10) 1 0)) =
       ap (λ (l : List ℕ). end_of l m) (drop-cons log place 0 h) ∙ end_cons b rest m (omega arith) in
-      let c : m - cond (eqb b 10) 1 0 ≡ n - (passed + k) = omega (arith, e) in
+      let f : k ≡ cond (eqb b 10) 1 0 = either_bool (eqb b 10) (λ q. e ∙ simp q) (λ q. e ∙ simp q) in
+      let c : m - cond (eqb b 10) 1 0 ≡ n - (passed + k) = omega arith in
       let t : end_of rest (m - cond (eqb b 10) 1 0) ≡ end_of (drop (place + 1) log) (n - (passed + k)) =
       (λ i. end_of (drop (sym (add-one place) i) log) (c i)) in
       record { within = omega arith; left = omega (arith, r.left, next, t) }

@@ -4,6 +4,8 @@ use Prim.Native.Nat.{ℕ, ◌+◌}
 use mathlib.Core.Path.{◌≡◌, refl, ap, sym, ◌∙◌}
 use mathlib.Core.List.{List, [], ◌∷◌}
 use lib.ListN.{set}
+use Rattle.refusals.specs.declared.Refusal.{Refusal}
+use Rattle.refusals.specs.Refusal.{number}
 use Rattle.trace.specs.Trace.{Trace, Answer, next, refused, step}
 use Rattle.pairs.specs.declared.Layout.{Layout}
 use Rattle.pairs.specs.Pairs.{work_of}
@@ -35,8 +37,8 @@ module _ (lay : Layout) (file : List ℕ) (x : Rule) where
     unfolding lines_from by_answer
     from-taken u p = ap by_line p
 
-    pub from_refused : (c : ℕ) → step (next t) l ≡ refused c
-        → lines_from lay file x t (l ∷ ls) w out ≡ (ended t (Refused c (t.lines + 1)), work_of lay t w, out)
+    pub from_refused : (c : Refusal) → step (next t) l ≡ refused c
+        → lines_from lay file x t (l ∷ ls) w out ≡ (ended t (Refused (number c) (t.lines + 1)), work_of lay t w, out)
     unfolding lines_from by_answer
     from_refused c p = ap by_line p
 

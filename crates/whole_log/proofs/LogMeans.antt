@@ -7,6 +7,7 @@ use native.Mathlib.Omega.{arith}
 use lib.ListN.{length, get_or, take}
 use lib.Seq.{length-take-le}
 use borrow.Author.Tests.{le-ltb}
+use Rattle.refusals.specs.Refusal.{number}
 use Rattle.lines.specs.Log.{lines_of, flat}
 use Rattle.trace.specs.Trace.{Trace, next, refused, no_trace, steps, Accepted}
 use Rattle.trace.proofs.Grown.{no_bytes, flat_lines}
@@ -70,15 +71,15 @@ module _ (lay : Layout) (file log w out : List ℕ) (a : LogRead) (v o : List �
               state = ap (λ (b : LogRead). b.state) (answered ∙ ap read_answer s);
               pairs = worked ∙ ap (λ (k : Trace × Ending). work_of lay k.0 w) s;
             }
-        go (at before l after u c d e r s) = read_not_refused c (u.lines + 1) (sym m ∙ ap (λ (b : LogRead). b.ending) (answered ∙ ap read_answer s))
+        go (at before l after u c d e r s) = read_not_refused (number c) (u.lines + 1) (sym m ∙ ap (λ (b : LogRead). b.ending) (answered ∙ ap read_answer s))
 
     stopped_log : (c n : ℕ) → a.ending ≡ Refused c n → LogStopped lay log w c n a v
     stopped_log c n m = go how_ends
       where
         go : Ends no_trace (lines_of log) got → LogStopped lay log w c n a v
         go (through u e s) = read_not_refused c n (sym (ap (λ (b : LogRead). b.ending) (answered ∙ ap read_answer s)) ∙ m)
-        go (at before l after u b d e r s) =
-            let f = same_refusal c b n (u.lines + 1) (sym (ap (λ (b : LogRead). b.ending) (answered ∙ ap read_answer s)) ∙ m) in
+        go (at before l after u why d e r s) =
+            let f = same_refusal c (number why) n (u.lines + 1) (sym (ap (λ (b : LogRead). b.ending) (answered ∙ ap read_answer s)) ∙ m) in
             let g : u.lines ≡ 0 + length before = lines_counted before no_trace u e in
             let b : lines_of (flat before) ≡ before = taken_lines before no_trace u e in
             record {
@@ -91,7 +92,7 @@ module _ (lay : Layout) (file log w out : List ℕ) (a : LogRead) (v o : List �
                 lines = d ∙ ap (λ (k : List (List ℕ)). k ++ (l ∷ after)) (sym b);
                 number = omega (arith, f.1, g, ap length b);
               };
-              why = r ∙ ap refused f.0;
+              why = (why, (r, f.0));
               state = ap (λ (b : LogRead). b.state) (answered ∙ ap read_answer s);
               pairs = worked ∙ ap (λ (k : Trace × Ending). work_of lay k.0 w) s;
             }

@@ -6,6 +6,7 @@ use native.Mathlib.Omega.{arith}
 use lib.ListN.{length, take, drop, length-append, take-append-drop}
 use lib.Seq.{take-append_seam, take-append-le, length-take-le}
 use Rattle.lists.proofs.Cases.{either_lt}
+use Rattle.refusals.specs.declared.Refusal.{Refusal}
 use Rattle.lines.specs.Log.{lines_of, flat}
 use Rattle.trace.specs.Trace.{Trace, Answer, next, refused, no_trace, step, steps, read}
 use Rattle.trace.proofs.Grown.{no_bytes, flat_lines, accepted_lines}
@@ -73,7 +74,7 @@ module _ (file : List ℕ) (x : Rule) where
     unfolding to_failure by_answer
     part_taken u p = ap by_line p
 
-    part_refused : (c : ℕ) → step (next t) l ≡ refused c → to_failure file x t (l ∷ ls) ≡ l ∷ ls
+    part_refused : (c : Refusal) → step (next t) l ≡ refused c → to_failure file x t (l ∷ ls) ≡ l ∷ ls
     unfolding to_failure by_answer
     part_refused c p = ap by_line p
 
@@ -88,7 +89,7 @@ module _ (file : List ℕ) (x : Rule) where
     holds_next u p e n h (suc zero) v a b s = ap verdict_after (same_trace v u (sym s ∙ p)) ∙ e
     holds_next u p e n h (suc (suc k)) v a b s = h (suc k) v (omega arith) (omega arith) (after_line_lem t u v l (take (suc k) ls) p s)
 
-    none_behind : (c : ℕ) → step (next t) l ≡ refused c → (n : ℕ) → HoldsTo t (l ∷ ls) n
+    none_behind : (c : Refusal) → step (next t) l ≡ refused c → (n : ℕ) → HoldsTo t (l ∷ ls) n
     none_behind c p n zero v a b s = absurd (omega arith)
     none_behind c p n (suc k) v a b s = no_line t v c l (take k ls) p s
 

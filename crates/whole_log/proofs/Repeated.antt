@@ -8,6 +8,7 @@ use mathlib.Core.Bool.{true}
 use lib.ListN.{length, set}
 use borrow.Author.Tests.{le-ltb}
 use Rattle.lists.proofs.Cases.{no_both}
+use Rattle.refusals.specs.Refusal.{number}
 use Rattle.lines.specs.Log.{lines_of}
 use Rattle.trace.specs.declared.Record.{Record}
 use Rattle.trace.specs.Trace.{Trace, no_trace, Accepted}
@@ -86,10 +87,10 @@ module _ (lay : Layout) (file : List ℕ) (x : Rule) (rule : rule_of file ≡ Ok
           (λ n m. judged-taken (verdict_of u (formula_of file x)) n (sym o.outcome ∙ m)),
         ))
         (λ d p o. (
-          (λ y m. judged-taken y d (sym m ∙ o.outcome)),
+          (λ y m. judged-taken y (number d) (sym m ∙ o.outcome)),
           (λ n m.
-              let f : Outcome.Refused d ≡ Outcome.Refused n = sym o.outcome ∙ m in
-              let g : d ≡ n = cc in
+              let f : Outcome.Refused (number d) ≡ Outcome.Refused n = sym o.outcome ∙ m in
+              let g : number d ≡ n = cc in
               from_refused lay file x t l ls w out d p ∙ (λ i. ended_at (sym o.state i) (Refused (g i) (t.lines + 1)) (sym o.pairs i) out)),
         )),
   )

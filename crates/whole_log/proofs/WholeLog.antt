@@ -9,6 +9,7 @@ use lib.ListN.{length, get_or, take, length-append}
 use lib.Seq.{take-append-le, take-append_seam, ext_get_or}
 use Rattle.lists.proofs.Lists.{append-nil}
 use Rattle.lists.proofs.Cases.{either_lt, no_both}
+use Rattle.refusals.specs.declared.Refusal.{Refusal}
 use Rattle.lines.specs.Log.{lines_of, flat}
 use Rattle.trace.specs.declared.Record.{Record}
 use Rattle.trace.specs.Trace.{Trace, next, refused, no_trace, step, steps, Accepted}
@@ -54,7 +55,7 @@ pub record TakenLines (ls : List (List ℕ)) (a : LogRead) : Type 0 where
   pub stops : (k : ℕ) (v : Trace) → k ≤ length ls → steps (next no_trace) (take k ls) ≡ next v → k ≤ length before
 
 -- behind a refused line none is taken
-pub stopped-behind : {C : Type 0} (before : List (List ℕ)) (l : List ℕ) (after : List (List ℕ)) (t u : Trace) (c : ℕ) → steps (next t) before ≡ next u → step (next u) l ≡ refused c
+pub stopped-behind : {C : Type 0} (before : List (List ℕ)) (l : List ℕ) (after : List (List ℕ)) (t u : Trace) (c : Refusal) → steps (next t) before ≡ next u → step (next u) l ≡ refused c
     → (k : ℕ) (v : Trace) → length before < k → steps (next t) (take k (before ++ (l ∷ after))) ≡ next v → C
 stopped-behind [] l after t u c e r zero v b f = absurd (omega arith)
 stopped-behind [] l after t u c e r (suc k) v b f = no_line t v c l (take k after) (ap (λ (s : Trace). step (next s) l) (same_trace t u e) ∙ r) f

@@ -14,7 +14,7 @@ use Rattle.rules.specs.Rules.{rule_of, formula_of}
 use Rattle.logic.specs.Verdict.{verdict_byte, verdict_of, Says}
 use Rattle.reading.specs.declared.Ending.TheVariants.{Read, Refused}
 use Rattle.reading.specs.declared.LogRead.{LogRead}
-use Rattle.reading.specs.Reading.{by_answer, ended}
+use Rattle.reading.specs.Reading.{RefusedAs, by_answer, ended}
 use Rattle.single.specs.Line.{with_rule}
 
 -- The lines that are left, after those that t stands for: the answer, the work area and the verdict buffer. "The whole-log call
@@ -58,7 +58,7 @@ pub record LineAt (log : List ℕ) (n : ℕ) : Type 0 where
 -- line n is refused with c, by its own bytes or by the lines before it, and these leave what is answered
 pub record LogStopped (lay : Layout) (log w : List ℕ) (c n : ℕ) (a : LogRead) (w' : List ℕ) : Type 0 where
   pub first : LineAt log n
-  pub why : step (next first.trace) first.line ≡ refused c
+  pub why : RefusedAs c (step (next first.trace) first.line)
   pub state : a.state ≡ record_of first.trace
   pub pairs : w' ≡ work_of lay first.trace w
 

@@ -22,6 +22,7 @@ mod log;
 mod stop;
 
 // How much of a log is read: the lines through the first that fails, or all of them.
+// Kept: C names it by a number, and the two readings differ in a dozen lines: a closure in its place would be no plainer.
 #[derive(Clone, Copy)]
 pub enum Mode {
     FirstFailure,
@@ -62,6 +63,7 @@ fn read_part(
 }
 
 // A whole log with a rule file: the record of the lines that are taken, their verdict bytes, and how the reading ended.
+// Kept: the buffers are parameters, as of the call for C, whose contract names each of them.
 pub fn check_log(
     layout: Layout,
     mode: Mode,

@@ -34,13 +34,6 @@ fn write_up_to(n: usize, lines: usize, verdicts: &mut [u8])
     }
 }
 
-// 1 for a byte that ends a line.
-fn ends_line(b: u8) -> usize
-    ensures { (result ≡ cond (eqb b 10) 1 0) × (result ≤ 1) }
-{
-    if b == b'\n' { 1 } else { 0 }
-}
-
 // Where the first n lines of a log end.
 fn end_of(log: &[u8], n: usize) -> usize
     ensures { EndsLines log.now n result }
@@ -50,7 +43,7 @@ fn end_of(log: &[u8], n: usize) -> usize
         if passed == n {
             return place;
         }
-        passed += ends_line(*b);
+        passed += usize::from(*b == b'\n');
     }
     log.len()
 }

@@ -12,11 +12,11 @@ take_event-a-requires c = (search (valid_fits, rules), search line_short, search
 pub refuse-requires : goal.refuse-requires
 refuse-requires c = (search rules, search (valid_lines, rules))
 
-pub returns-in-Refused : goal.returns-in-Refused
-returns-in-Refused c = search (takes_refused, rules)
+pub returns-in-Err : goal.returns-in-Err
+returns-in-Err c = search (takes_refused, rules)
 
 pub put_found-size-requires : goal.put_found-size-requires
 put_found-size-requires c = (search rules, search (lines_then, rules), search (few-then, rules))
 
-pub returns-in-Taken : goal.returns-in-Taken
-returns-in-Taken c = search (takes-taken, rules)
+pub returns-in-Ok : goal.returns-in-Ok
+returns-in-Ok c = search (takes-taken, rules)

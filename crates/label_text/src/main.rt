@@ -16,6 +16,7 @@ ghost use Rattle.label_text.specs.Printed.{book_room, label_room, refused_line, 
 use input::Streams;
 use label_book::Piece;
 use output::Written;
+use refusals::Refusal;
 use std::io;
 use std::rt::Files;
 use told::LINE_BYTES;
@@ -72,13 +73,12 @@ fn read_label(streams: Streams, label: &mut [u8]) -> io::Result<usize>
 }
 
 // What standard error is to be told of a piece: the refusal, or nothing.
-fn refusal_of(p: Piece) -> Written
+fn refusal_of(p: Result<Piece, Refusal>) -> Written
     ensures { error_of result ≡ refused_line p }
 {
     match p {
-        Piece::Refused(c) => return Written::Refused(c),
-        Piece::InBook(_, _) => return Written::Length(0),
-        Piece::InLog(_, _) => return Written::Length(0),
+        Err(refusal) => Written::Refused(u8::from(refusal)),
+        Ok(_) => Written::Length(0),
     }
 }
 

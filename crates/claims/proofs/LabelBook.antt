@@ -1,7 +1,9 @@
 -- The label book, from the promises of its two calls and the laws of its lines.
 use Prim.Native.Nat.{ℕ, ◌+◌, ◌-◌}
 use mathlib.Core.Path.{◌≡◌, refl, ap, sym, subst, ◌∙◌}
-use mathlib.Core.Option.{some}
+use Rattle.std.specs.Prelude.{Result, Ok, Some}
+use Rattle.refusals.specs.declared.Refusal.{Refusal}
+use Rattle.refusals.specs.Refusal.{RefusedWith}
 use mathlib.Core.List.{List}
 use native.Mathlib.Omega.{arith}
 use lib.ListN.{take, drop}
@@ -19,7 +21,7 @@ use Rattle.claims.specs.LabelBook.{PartAt, LabelBook}
 use Rattle.claims.proofs.Refusals.{lent_nothing}
 
 one_list : (b : List ℕ) (es fs : List Entry) → Book b es → Book b fs → es ≡ fs
-one_list b es fs h k = let e : some es ≡ some fs = sym ((book_read b es).1 h) ∙ (book_read b fs).1 k in cc
+one_list b es fs h k = let e : Some es ≡ Some fs = sym ((book_read b es).1 h) ∙ (book_read b fs).1 k in cc
 
 piece_listed : (book log : List ℕ) (p n c : ℕ) → MetPiece book log p n c → Listed c
 piece_listed book log p n c (no_book h e) = omega arith
@@ -35,21 +37,21 @@ own_bytes book log p n start end w =
     rw (e, w.starts) refl
 
 -- where the part stands that is handed back, by the answer of the twin
-module _ (book log : Bor (List ℕ)) (p n : ℕ) (t : Bor (List ℕ)) (h : Hands book log p n t) (r : Piece) (w : TellsPiece book.now log.now p n r) where
-  stands_as : (x : Piece) → r ≡ x → StandsIn book log x t
-  stands_as x e = subst (λ (y : Piece). StandsIn book log y t) (h.told.answer ∙ (sym w.answer ∙ e)) h.stands
+module _ (book log : Bor (List ℕ)) (p n : ℕ) (t : Bor (List ℕ)) (h : Hands book log p n t) (r : Result Piece Refusal) (w : TellsPiece book.now log.now p n r) where
+  stands_as : (x : Result Piece Refusal) → r ≡ x → StandsIn book log x t
+  stands_as x e = subst (λ (y : Result Piece Refusal). StandsIn book log y t) (h.told.answer ∙ (sym w.answer ∙ e)) h.stands
 
   same_piece : h.piece ≡ r
   same_piece = h.told.answer ∙ sym w.answer
 
   handed_text : (start end : ℕ) (u : TextOfBook book.now log.now p n start end) → PartAt book start u.text.entry.text t
   handed_text start end u =
-      let s : SliceOf book start end t = stands_as (InBook start end) ((w.meaning.in_book start end).1 u) in
+      let s : SliceOf book start end t = stands_as (Ok (InBook start end)) ((w.meaning.in_book start end).1 u) in
       record { block = s.block; offset = s.offset; read = s.bytes ∙ own_text book.now log.now p n start end u }
 
   handed_bytes : (start end : ℕ) → BytesOfLog book.now log.now p n start end → PartAt log p (piece_at log.now p n) t
   handed_bytes start end u =
-      let s : SliceOf log start end t = stands_as (InLog start end) ((w.meaning.in_log start end).1 u) in
+      let s : SliceOf log start end t = stands_as (Ok (InLog start end)) ((w.meaning.in_log start end).1 u) in
       record {
         block = s.block;
         offset = s.offset ∙ ap (λ (k : ℕ). k + log.ref_ptr.1) u.starts;
@@ -75,5 +77,5 @@ the_label_book =
       handed_bytes = handed_bytes;
       empty = λ book log p n t h r w.
           let e = same_piece book log p n t h r w in
-          (λ z. let k = h.empty.0 z in (k.0, sym e ∙ k.1), λ k. h.empty.1 (k.0, e ∙ k.1));
+          (λ z. subst (λ (x : Result Piece Refusal). (c : ℕ) × RefusedWith c x) e (h.empty.0 z), λ k. h.empty.1 (subst (λ (x : Result Piece Refusal). (c : ℕ) × RefusedWith c x) (sym e) k));
     }

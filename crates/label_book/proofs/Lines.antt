@@ -14,7 +14,6 @@ use Rattle.std.specs.Option.{unwrap_or}
 use Rattle.std.specs.Prelude.{Option, Some, None}
 use Rattle.lists.proofs.Cases.{either_lt, never, no_both}
 use Rattle.labels.specs.Label.{letter?, capital, label_length?}
-use Rattle.label_book.specs.declared.Line.TheVariants.{Read, Bad}
 use Rattle.label_book.specs.Reading.{label_byte?, text_byte?, fits?, span, line?, label_span, text_span, line_of}
 
 -- ── which bytes fit ──
@@ -71,17 +70,17 @@ pub rest_drop : (i : ℕ) (s : List ℕ) → take (length s - i) (drop i s) ≡ 
 rest_drop i s = take_all (length s - i) (drop i s) (omega (arith, length-drop i s))
 
 -- ── the tests of a line ──
-not_line : (s : List ℕ) → line? (label_span s) (text_span s) s ≡ false → Bad ≡ line_of s
+not_line : (s : List ℕ) → line? (label_span s) (text_span s) s ≡ false → None ≡ line_of s
 unfolding line_of
 not_line s e = simp e
 
 module _ (s : List ℕ) (n : ℕ) (e : n ≡ span label_byte? s) where
-  pub no_label : n ≡ 0 → Bad ≡ line_of s
+  pub no_label : n ≡ 0 → None ≡ line_of s
   unfolding line?
   no_label h = not_line s (simp (lt-leb 1 (label_span s) (omega arith)))
 
   module _ (h1 : n ≢ 0) where
-    pub long_label_lem : 24 < n → Bad ≡ line_of s
+    pub long_label_lem : 24 < n → None ≡ line_of s
     unfolding line?
     long_label_lem h = not_line s (simp (le-leb 1 (label_span s) (omega arith), lt-leb (label_span s) 24 (omega arith)))
 
@@ -89,11 +88,11 @@ module _ (s : List ℕ) (n : ℕ) (e : n ≡ span label_byte? s) where
       size_is : label_length? (label_span s) ≡ true
       size_is = simp (le-leb 1 (label_span s) (omega arith), le-leb (label_span s) 24 (omega arith))
 
-      pub no_sign : get_or s n 0 ≢ 61 → Bad ≡ line_of s
+      pub no_sign : get_or s n 0 ≢ 61 → None ≡ line_of s
       unfolding line?
       no_sign h = not_line s (simp (size_is, ne_eqb (get_or s (label_span s) 0) 61 (rw e at h)))
 
-      pub no_more : length s ≤ n → Bad ≡ line_of s
+      pub no_more : length s ≤ n → None ≡ line_of s
       no_more h = no_sign (λ q. omega (arith, past_end s n h))
 
       module _ (h3 : get_or s n 0 ≡ 61) (m : ℕ) (f : m ≡ span text_byte? (take (length s - (n + 1)) (drop (n + 1) s))) where
@@ -103,7 +102,7 @@ module _ (s : List ℕ) (n : ℕ) (e : n ≡ span label_byte? s) where
         sign_is : eqb (get_or s (label_span s) 0) 61 ≡ true
         sign_is = eq-eqb (get_or s (label_span s) 0) 61 (rw e at h3)
 
-        pub no_text : m ≡ 0 → Bad ≡ line_of s
+        pub no_text : m ≡ 0 → None ≡ line_of s
         unfolding line?
         no_text h = not_line s (simp (size_is, sign_is, lt-leb 1 (text_span s) (omega (arith, text_is))))
 
@@ -111,7 +110,7 @@ module _ (s : List ℕ) (n : ℕ) (e : n ≡ span label_byte? s) where
           some_is : leb 1 (text_span s) ≡ true
           some_is = le-leb 1 (text_span s) (omega (arith, text_is))
 
-          pub long_text_lem : 60 < m → Bad ≡ line_of s
+          pub long_text_lem : 60 < m → None ≡ line_of s
           unfolding line?
           long_text_lem h = not_line s (simp (size_is, sign_is, some_is, lt-leb (text_span s) 60 (omega (arith, text_is))))
 
@@ -122,14 +121,14 @@ module _ (s : List ℕ) (n : ℕ) (e : n ≡ span label_byte? s) where
             end_is : get_or s (n + 1 + m) 0 ≡ get_or s (label_span s + 1 + text_span s) 0
             end_is = ap (λ (j : ℕ). get_or s j 0) (omega (arith, e, text_is))
 
-            pub no_line_end : get_or s (n + 1 + m) 0 ≢ 10 → Bad ≡ line_of s
+            pub no_line_end : get_or s (n + 1 + m) 0 ≢ 10 → None ≡ line_of s
             unfolding line?
             no_line_end h = not_line s (simp (size_is, sign_is, some_is, few_is, ne_eqb (get_or s (label_span s + 1 + text_span s) 0) 10 (λ q. h (end_is ∙ q))))
 
-            pub cut_off : length s ≤ n + 1 + m → Bad ≡ line_of s
+            pub cut_off : length s ≤ n + 1 + m → None ≡ line_of s
             cut_off h = no_line_end (λ q. omega (arith, past_end s (n + 1 + m) h))
 
-            pub whole_line : get_or s (n + 1 + m) 0 ≡ 10 → Read n m ≡ line_of s
+            pub whole_line : get_or s (n + 1 + m) 0 ≡ 10 → Some (n, m) ≡ line_of s
             unfolding line? line_of
             whole_line h =
                 let g : line? (label_span s) (text_span s) s ≡ true =
@@ -160,10 +159,13 @@ six true true false d e f h = no_both (sym h)
 six true false c d e f h = no_both (sym h)
 six false b c d e f h = no_both (sym h)
 
-module _ (s : List ℕ) (n m : ℕ) (e : line_of s ≡ Read n m) where
-  told : (b : Bool) → b ≡ line? (label_span s) (text_span s) s → cond b (Read (label_span s) (text_span s)) Bad ≡ Read n m
+module _ (s : List ℕ) (n m : ℕ) (e : line_of s ≡ Some (n, m)) where
+  told : (b : Bool) → b ≡ line? (label_span s) (text_span s) s → cond {A = Option (ℕ × ℕ)} b (Some (label_span s, text_span s)) None ≡ Some (n, m)
       → (line? n m s ≡ true) × (n ≡ label_span s) × (m ≡ text_span s)
-  told true p q = let h : label_span s ≡ n = cc in let k : text_span s ≡ m = cc in (rw (← h, ← k) (sym p), sym h, sym k)
+  told true p q =
+      let w : ◌≡◌ {A = ℕ × ℕ} (label_span s, text_span s) (n, m) = cc in
+      let h : label_span s ≡ n = ap (λ (t : ℕ × ℕ). t.0) w in
+      let k : text_span s ≡ m = ap (λ (t : ℕ × ℕ). t.1) w in (rw (← h, ← k) (sym p), sym h, sym k)
   told false p q = never cc
 
   pub line_is : LineIs s n m

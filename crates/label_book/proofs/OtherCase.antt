@@ -2,7 +2,7 @@
 use Prim.Native.Nat.{ℕ, suc, ◌+◌}
 use mathlib.Core.Path.{◌≡◌, refl, ap, ap₂, sym, ◌∙◌}
 use mathlib.Core.Bool.{Bool, ◌&&◌, cond}
-use mathlib.Core.Option.{Option, none, some}
+use Rattle.std.specs.Prelude.{Option, None, Some}
 use mathlib.Core.List.{List, [], ◌∷◌}
 use native.Mathlib.Omega.{arith}
 use lib.Dec.{leb}
@@ -10,9 +10,8 @@ use lib.ListN.{length, take, drop, length-map}
 use Rattle.lists.specs.Lists.{same?}
 use Rattle.labels.specs.Label.{capital, capitals, label_form?}
 use Rattle.labels.proofs.Capitals.{capitals-take, capitals-drop}
-use Rattle.label_book.specs.declared.Listing.{Listing}
-use Rattle.label_book.specs.declared.Listing.TheVariants.{Text}
-use Rattle.label_book.specs.declared.Piece.TheVariants.{Refused}
+use Rattle.std.specs.Prelude.{Ok, Err}
+use Rattle.refusals.specs.declared.Refusal.TheVariants.{LineLabel}
 use Rattle.label_book.specs.Book.{Entry, entry_bytes, SameButCase}
 use Rattle.label_book.specs.Reading.{book_of, text_from}
 use Rattle.label_book.specs.Piece.{piece_at, label_at?, piece_of, piece_in, piece_for}
@@ -25,7 +24,7 @@ same_length s t e = sym (length-map s capital) ∙ ap length e ∙ length-map t 
 text_by_capitals : (at : ℕ) (es : List Entry) (l m : List ℕ) → capitals l ≡ capitals m → text_from at es l ≡ text_from at es m
 text_by_capitals at [] l m e = refl
 text_by_capitals at (x ∷ es) l m e =
-    ap₂ (λ (k : List ℕ) (r : Listing). cond (same? k (capitals x.label)) (Text (at + length x.label + 1) (at + length x.label + 1 + length x.text)) r) e
+    ap₂ (λ (k : List ℕ) (r : Option (ℕ × ℕ)). cond (same? k (capitals x.label)) (Some (at + length x.label + 1, at + length x.label + 1 + length x.text)) r) e
     (text_by_capitals (at + length (entry_bytes x)) es l m e)
 
 module _ (log other : List ℕ) (e : capitals log ≡ capitals other) (p n : ℕ) where
@@ -43,9 +42,9 @@ module _ (log other : List ℕ) (e : capitals log ≡ capitals other) (p n : ℕ
   other_log book = go (book_of book)
     where
       go : (o : Option (List Entry)) → piece_in o log p n ≡ piece_in o other p n
-      go none = refl
-      go (some es) =
-          ap₂ (λ (b : Bool) (r : Listing). cond b (piece_of r p n) (Refused 13)) same_label_at
+      go None = refl
+      go (Some es) =
+          ap₂ (λ (b : Bool) (r : Option (ℕ × ℕ)). cond b (Ok (piece_of r p n)) (Err LineLabel)) same_label_at
           (text_by_capitals 0 es (piece_at log p n) (piece_at other p n) piece_capitals)
 
 -- ── another book ──
@@ -63,10 +62,10 @@ text_by_entries at (x ∷ es) (y ∷ fs) l c =
     in
     rw (h.0, n, m, r) refl
 
-pub other_book : (book other log : List ℕ) (es fs : List Entry) → book_of book ≡ some es → book_of other ≡ some fs → SameButCase es fs
+pub other_book : (book other log : List ℕ) (es fs : List Entry) → book_of book ≡ Some es → book_of other ≡ Some fs → SameButCase es fs
     → (p n : ℕ) → piece_for book log p n ≡ piece_for other log p n
 unfolding piece_for
 other_book book other log es fs b d c p n =
     ap (λ (o : Option (List Entry)). piece_in o log p n) b
-    ∙ (ap (λ (r : Listing). cond (label_at? log p n) (piece_of r p n) (Refused 13)) (text_by_entries 0 es fs (piece_at log p n) c)
+    ∙ (ap (λ (r : Option (ℕ × ℕ)). cond (label_at? log p n) (Ok (piece_of r p n)) (Err LineLabel)) (text_by_entries 0 es fs (piece_at log p n) c)
     ∙ ap (λ (o : Option (List Entry)). piece_in o log p n) (sym d))

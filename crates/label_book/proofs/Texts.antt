@@ -2,6 +2,7 @@
 use Prim.Native.Nat.{ℕ, zero, suc, ◌+◌, ◌<◌}
 use mathlib.Core.Path.{◌≡◌, refl, ap, ap₂, sym, subst₂, ◌∙◌}
 use mathlib.Core.Logic.{◌↔◌, ◌≢◌}
+use Rattle.std.specs.Prelude.{Option, None, Some}
 use mathlib.Core.List.{List, [], ◌∷◌, ◌++◌}
 use native.Mathlib.Omega.{arith}
 use lib.ListN.{length, length-append, get_or-append}
@@ -11,7 +12,6 @@ use Rattle.lists.proofs.Cases.{either_bool, no_both, never}
 use Rattle.lists.proofs.Tells.{tell_no}
 use Rattle.lists.proofs.Lists.{same_eq, same_refl, same_not}
 use Rattle.labels.specs.Label.{capitals}
-use Rattle.label_book.specs.declared.Listing.TheVariants.{Text, Missing, NoBook}
 use Rattle.label_book.specs.Book.{Entry, no_entry, entry_bytes, book_bytes, InByteOrder, capitals_at, LabelsRise, TextAt, NotListed}
 use Rattle.label_book.specs.Reading.{text_from}
 use Rattle.label_book.proofs.Order.{never_before_itself}
@@ -20,7 +20,7 @@ module _ (l : List ℕ) where
   -- ── the first line ──
   module _ (at : ℕ) (e : Entry) (es : List Entry) where
     first_line : capitals e.label ≡ capitals l
-        → text_from at (e ∷ es) l ≡ Text (at + length e.label + 1) (at + length e.label + 1 + length e.text)
+        → text_from at (e ∷ es) l ≡ Some (at + length e.label + 1, at + length e.label + 1 + length e.text)
     first_line q = rw q (simp (same_refl (capitals l)))
 
     later_line : capitals e.label ≢ capitals l → text_from at (e ∷ es) l ≡ text_from (at + length (entry_bytes e)) es l
@@ -38,14 +38,14 @@ module _ (l : List ℕ) where
   unlisted_more e es n m zero h = n
   unlisted_more e es n m (suc i) h = m i (omega arith)
 
-  missing_unlisted : (at : ℕ) (es : List Entry) → text_from at es l ≡ Missing → NotListed es l
+  missing_unlisted : (at : ℕ) (es : List Entry) → text_from at es l ≡ None → NotListed es l
   missing_unlisted at [] q = λ i h. absurd (omega arith)
   missing_unlisted at (e ∷ es) q =
       by_first e
       (λ p. let z = sym (first_line at e es p) ∙ q in never cc)
       (λ n. unlisted_more e es n (missing_unlisted (at + length (entry_bytes e)) es (sym (later_line at e es n) ∙ q)))
 
-  unlisted_missing : (at : ℕ) (es : List Entry) → NotListed es l → text_from at es l ≡ Missing
+  unlisted_missing : (at : ℕ) (es : List Entry) → NotListed es l → text_from at es l ≡ None
   unlisted_missing at [] n = refl
   unlisted_missing at (e ∷ es) n =
       later_line at e es (n 0 (omega arith)) ∙ unlisted_missing (at + length (entry_bytes e)) es (λ i h. n (suc i) (omega arith))
@@ -59,14 +59,15 @@ module _ (l : List ℕ) where
     starts : start ≡ at + first
     ends : end ≡ at + past
 
-  text_past : (start end at : ℕ) (es : List Entry) → text_from at es l ≡ Text start end → TextPast at es start end
+  text_past : (start end at : ℕ) (es : List Entry) → text_from at es l ≡ Some (start, end) → TextPast at es start end
   text_past start end at [] q = never cc
   text_past start end at (e ∷ es) q =
       by_first e
       (λ p.
       let z = sym (first_line at e es p) ∙ q in
-      let a : at + length e.label + 1 ≡ start = cc in
-      let b : at + length e.label + 1 + length e.text ≡ end = cc in
+      let w : ◌≡◌ {A = ℕ × ℕ} (at + length e.label + 1, at + length e.label + 1 + length e.text) (start, end) = cc in
+      let a : at + length e.label + 1 ≡ start = ap (λ (t : ℕ × ℕ). t.0) w in
+      let b : at + length e.label + 1 + length e.text ≡ end = ap (λ (t : ℕ × ℕ). t.1) w in
       record {
         first = length e.label + 1;
         past = length e.label + 1 + length e.text;
@@ -95,8 +96,8 @@ module _ (l : List ℕ) where
   text_found : (at : ℕ) (before : List Entry) (entry : Entry) (after : List Entry) → NotListed before l
       → capitals entry.label ≡ capitals l
       → text_from at (before ++ (entry ∷ after)) l
-      ≡ Text (at + length (book_bytes before) + length entry.label + 1)
-      (at + length (book_bytes before) + length entry.label + 1 + length entry.text)
+      ≡ Some
+      (at + length (book_bytes before) + length entry.label + 1, at + length (book_bytes before) + length entry.label + 1 + length entry.text)
   text_found at [] entry after n p =
       let z : at + 0 ≡ at = omega arith in
       rw z (first_line at entry after p)
@@ -119,27 +120,20 @@ others_before before entry after r i h p =
     never_before_itself (capitals entry.label) (rw p at c)
 
 -- ── what the answer says ──
-pub never_no_book : (es : List Entry) (l : List ℕ) (at : ℕ) → text_from at es l ≡ NoBook → ⊥
-never_no_book [] l at q = never cc
-never_no_book (e ∷ es) l at q =
-    by_first l e
-    (λ p. let z = sym (first_line l at e es p) ∙ q in never cc)
-    (λ n. never_no_book es l (at + length (entry_bytes e)) (sym (later_line l at e es n) ∙ q))
-
-pub text_missing : (es : List Entry) (l : List ℕ) → (text_from 0 es l ≡ Missing) ↔ NotListed es l
+pub text_missing : (es : List Entry) (l : List ℕ) → (text_from 0 es l ≡ None) ↔ NotListed es l
 text_missing es l = (missing_unlisted l 0 es, unlisted_missing l 0 es)
 
 pub text_listed : (es : List Entry) (l : List ℕ) → LabelsRise es
-    → (start end : ℕ) → (text_from 0 es l ≡ Text start end) ↔ TextAt es l start end
+    → (start end : ℕ) → (text_from 0 es l ≡ Some (start, end)) ↔ TextAt es l start end
 text_listed es l r start end = (to, from)
   where
-    to : text_from 0 es l ≡ Text start end → TextAt es l start end
+    to : text_from 0 es l ≡ Some (start, end) → TextAt es l start end
     to q =
         let w = text_past l start end 0 es q in
         subst₂ (TextAt es l) (omega (arith, w.starts)) (omega (arith, w.ends)) w.text
 
-    from : TextAt es l start end → text_from 0 es l ≡ Text start end
+    from : TextAt es l start end → text_from 0 es l ≡ Some (start, end)
     from w =
         let n : NotListed w.before l = λ i h p. others_before w.before w.entry w.after (rw w.lines at r) i h (p ∙ sym w.label) in
         let f = text_found l 0 w.before w.entry w.after n w.label in
-        rw w.lines (f ∙ ap₂ Text (omega (arith, w.starts)) (omega (arith, w.starts, w.ends)))
+        rw w.lines (f ∙ ap₂ (λ (i j : ℕ). Some (i, j)) (omega (arith, w.starts)) (omega (arith, w.starts, w.ends)))

@@ -4,7 +4,7 @@ use Prim.Native.Nat.{ℕ, zero, suc, ◌+◌, ◌-◌, ◌≤◌, ◌<◌}
 use mathlib.Core.Path.{◌≡◌, refl, ap, ap₂, sym, ◌∙◌}
 use mathlib.Core.Logic.{◌≢◌, ◌↔◌}
 use mathlib.Core.Bool.{Bool, true, false, ◌&&◌}
-use mathlib.Core.Option.{Option, none, some}
+use Rattle.std.specs.Prelude.{Option, None, Some}
 use mathlib.Core.List.{List, [], ◌∷◌, ◌++◌, append_assoc}
 use native.Mathlib.Omega.{arith}
 use native.Mathlib.Numerals.{add-one}
@@ -16,8 +16,6 @@ use Rattle.lists.proofs.Cases.{either_bool, no_both, never, and_left, and_right}
 use Rattle.labels.specs.Label.{letter?, capital, capitals, label_length?, label_form?}
 use Rattle.grammar.specs.Written.{IsLabel}
 use Rattle.grammar.proofs.Written.{all_each, each_all, form_is_label}
-use Rattle.label_book.specs.declared.Line.{Line}
-use Rattle.label_book.specs.declared.Line.TheVariants.{Read, Bad}
 use Rattle.label_book.specs.Book.{Entry, no_entry, entry_bytes, book_bytes, RightEntry, TextAt}
 use Rattle.label_book.specs.Reading.{label_byte?, text_byte?, span, line_of, entry_at, with_entry, when_read, entries_from}
 use Rattle.label_book.proofs.Lines.{LineIs, line_is, whole_line, rest_drop}
@@ -149,7 +147,7 @@ module _ (s : List ℕ) (n m : ℕ) (l : LineIs s n m) where
   }
 
 -- a line that is read is the bytes of a right entry
-pub line_written : (s : List ℕ) (n m : ℕ) → line_of s ≡ Read n m → LineWritten s n m
+pub line_written : (s : List ℕ) (n m : ℕ) → line_of s ≡ Some (n, m) → LineWritten s n m
 line_written s n m e =
     let l = line_is s n m e in
     record {
@@ -186,7 +184,7 @@ module _ (e : Entry) (rest : List ℕ) (r : RightEntry e) where
       ∙ get_or-append_seam e.text 10 rest 0
 
   -- the bytes of a right entry are read as its line
-  pub written_line : line_of (entry_bytes e ++ rest) ≡ Read (length e.label) (length e.text)
+  pub written_line : line_of (entry_bytes e ++ rest) ≡ Some (length e.label, length e.text)
   written_line =
       let s = entry_bytes e ++ rest in
       let n = length e.label in
@@ -212,14 +210,14 @@ Written b es = (b ≡ book_bytes es) × EachRight es
 
 -- what is claimed of fewer bytes than b
 abbrev FewerWritten : List ℕ → Type 0
-FewerWritten b = (u : List ℕ) (es : List Entry) → length u < length b → entries_from 0 u ≡ some es → Written u es
+FewerWritten b = (u : List ℕ) (es : List Entry) → length u < length b → entries_from 0 u ≡ Some es → Written u es
 
 -- the first line, and those behind it
 module _ (b : List ℕ) (es : List Entry) (s : 0 < length b) (fewer : FewerWritten b) where
-  first_written : (n m : ℕ) → line_of b ≡ Read n m → (o : Option (List Entry)) → entries_from 0 (drop (n + m + 2) b) ≡ o
-      → with_entry (entry_at n m b) o ≡ some es → Written b es
-  first_written n m l none p q = never cc
-  first_written n m l (some fs) p q =
+  first_written : (n m : ℕ) → line_of b ≡ Some (n, m) → (o : Option (List Entry)) → entries_from 0 (drop (n + m + 2) b) ≡ o
+      → with_entry (entry_at n m b) o ≡ Some es → Written b es
+  first_written n m l None p q = never cc
+  first_written n m l (Some fs) p q =
       let w = line_written b n m l in
       let e = entry_at n m b in
       let u = drop (n + m + 2) b in
@@ -227,12 +225,12 @@ module _ (b : List ℕ) (es : List Entry) (s : 0 < length b) (fewer : FewerWritt
       let f : es ≡ e ∷ fs = cc in
       rw f (w.bytes ∙ ap (λ (v : List ℕ). entry_bytes e ++ v) g.0, one_right e fs w.right g.1)
 
-  line_then : (o : Line) → line_of b ≡ o
-      → when_read o (λ n m. with_entry (entry_at n m b) (entries_from 0 (drop (n + m + 2) b))) none ≡ some es → Written b es
-  line_then Bad p q = never cc
-  line_then (Read n m) p q = first_written n m p (entries_from 0 (drop (n + m + 2) b)) refl q
+  line_then : (o : Option (ℕ × ℕ)) → line_of b ≡ o
+      → when_read o (λ n m. with_entry (entry_at n m b) (entries_from 0 (drop (n + m + 2) b))) None ≡ Some es → Written b es
+  line_then None p q = never cc
+  line_then (Some l) p q = first_written l.0 l.1 p (entries_from 0 (drop (l.0 + l.1 + 2) b)) refl q
 
-some_written : (b : List ℕ) (es : List Entry) → FewerWritten b → entries_from 0 b ≡ some es → Written b es
+some_written : (b : List ℕ) (es : List Entry) → FewerWritten b → entries_from 0 b ≡ Some es → Written b es
 some_written [] es fewer e =
     let f : es ≡ [] = cc entries_none in
     rw f (refl, λ i h. absurd (omega arith))
@@ -240,12 +238,12 @@ some_written (x ∷ b) es fewer e =
     let s : 0 < length (x ∷ b) = omega arith in
     line_then (x ∷ b) es s fewer (line_of (x ∷ b)) refl (sym (entries-more (x ∷ b) s) ∙ e)
 
-lines_written : (k : ℕ) (b : List ℕ) (es : List Entry) → length b ≤ k → entries_from 0 b ≡ some es → Written b es
+lines_written : (k : ℕ) (b : List ℕ) (es : List Entry) → length b ≤ k → entries_from 0 b ≡ Some es → Written b es
 lines_written zero b es h e = some_written b es (λ u fs l f. absurd (omega arith)) e
 lines_written (suc k) b es h e = some_written b es (λ u fs l f. lines_written k u fs (omega arith) f) e
 
 -- and back
-written_lines : (es : List Entry) → EachRight es → entries_from 0 (book_bytes es) ≡ some es
+written_lines : (es : List Entry) → EachRight es → entries_from 0 (book_bytes es) ≡ Some es
 written_lines [] h = entries_none
 written_lines (e ∷ es) h =
     let b = book_bytes (e ∷ es) in
@@ -256,7 +254,7 @@ written_lines (e ∷ es) h =
 
 -- the lines read from some bytes are the right entries that the bytes are written from
 pub entries_written : (b : List ℕ) (es : List Entry)
-    → (entries_from 0 b ≡ some es) ↔ ((b ≡ book_bytes es) × ((i : ℕ) → i < length es → RightEntry (get_or es i no_entry)))
+    → (entries_from 0 b ≡ Some es) ↔ ((b ≡ book_bytes es) × ((i : ℕ) → i < length es → RightEntry (get_or es i no_entry)))
 entries_written b es = (lines_written (length b) b es (omega arith), λ w. rw w.0 (written_lines es w.1))
 
 -- ── where a text stands ──

@@ -5,38 +5,22 @@
 // depends on a book.
 #![tactic(auto)]
 
-ghost use Rattle.std.specs.Prelude.{◌≡◌, cond};
+ghost use Rattle.std.specs.Prelude.{◌≡◌};
 ghost use Rattle.labels.specs.Label.{capitals};
-ghost use Rattle.label_book.specs.Reading.{fits?, span, line_of, before?, first_of, look_up};
-ghost use Rattle.label_book.specs.Piece.{bytes_inside, without_label, TellsPiece, Hands};
-ghost use Rattle.label_book.specs.declared.Listing.TheVariants.{Text, Missing};
+ghost use Rattle.label_book.specs.Reading.{fits?, span, line_of, before?, look_up};
+ghost use Rattle.label_book.specs.Piece.{bytes_inside, TellsPiece, Hands};
 
 use labels::MAX_LABEL_BYTES;
+use refusals::Refusal;
 
 // The most bytes of a text: max_text_bytes of specs.
 const MAX_TEXT_BYTES: usize = 60;
 
-// A line of a book: how many bytes its label has, and its text.
-#[derive(Clone, Copy)]
-enum Line {
-    Read(usize, usize),
-    Bad,
-}
-
-// What a book has for a label: its text, from the first byte to past the last; or nothing; or the bytes are no book.
-#[derive(Clone, Copy)]
-enum Listing {
-    Text(usize, usize),
-    Missing,
-    NoBook,
-}
-
-// Where the text for a label stands, from its first byte to past its last; or the number of the refusal.
+// Where the text for a label stands, from its first byte to past its last.
 #[derive(Clone, Copy)]
 pub enum Piece {
     InBook(usize, usize),
     InLog(usize, usize),
-    Refused(u8),
 }
 
 // Whether a text, or a label, may have the byte.
@@ -62,39 +46,39 @@ fn count_fitting(s: &[u8], text: bool) -> usize
         .unwrap_or(s.len())
 }
 
-// The line at the front of what is left of a book.
-fn read_line(s: &[u8]) -> Line
+// The line at the front of what is left of a book: how many bytes its label has, and its text; none where the bytes are no line.
+fn read_line(s: &[u8]) -> Option<(usize, usize)>
     ensures { result ≡ line_of s.now }
 {
     let n = count_fitting(s, false);
     if n == 0 {
-        return Line::Bad;
+        return None;
     }
     if MAX_LABEL_BYTES < n {
-        return Line::Bad;
+        return None;
     }
     if s.len() <= n {
-        return Line::Bad;
+        return None;
     }
     if s[n] != b'=' {
-        return Line::Bad;
+        return None;
     }
     let from = n + 1;
     let m = count_fitting(&s[from..], true);
     if m == 0 {
-        return Line::Bad;
+        return None;
     }
     if MAX_TEXT_BYTES < m {
-        return Line::Bad;
+        return None;
     }
     let end = from + m;
     if s.len() <= end {
-        return Line::Bad;
+        return None;
     }
     if s[end] != b'\n' {
-        return Line::Bad;
+        return None;
     }
-    Line::Read(n, m)
+    Some((n, m))
 }
 
 // Whether the capitals of one label are before those of another in byte order.
@@ -114,40 +98,23 @@ fn precedes(s: &[u8], t: &[u8]) -> bool
     s.len() < t.len()
 }
 
-// What is found once one line more is read. The first text that is found stays.
-fn found_with(found: Listing, same: bool, start: usize, end: usize) -> Listing
-    ensures { result ≡ first_of found (cond same (Text start end) Missing) }
-{
-    match found {
-        Listing::Text(a, e) => return Listing::Text(a, e),
-        Listing::Missing => {
-            if same {
-                return Listing::Text(start, end);
-            }
-            return Listing::Missing;
-        }
-        Listing::NoBook => return Listing::NoBook,
-    }
-}
-
-// Where a book has the text of a label.
-fn look_up(book: &[u8], label: &[u8]) -> Listing
+// Where a book has the text of a label, from the first byte to past the last, if it lists the label. Bytes that are no book are refused.
+fn look_up(book: &[u8], label: &[u8]) -> Result<Option<(usize, usize)>, Refusal>
     ensures { result ≡ look_up book.now label.now }
 {
-    let mut found = Listing::Missing;
+    let mut found = None;
     let mut at: usize = 0;
     // the label of the line before
     let mut from: usize = 0;
     let mut to: usize = 0;
     // Kept: no count, since each line says where the next begins; the places of a text are those that `piece_for` answers.
     while at < book.len() {
-        let line = read_line(&book[at..]);
-        let Line::Read(n, m) = line else {
-            return Listing::NoBook;
+        let Some((n, m)) = read_line(&book[at..]) else {
+            return Err(Refusal::BookForm);
         };
         let sign = at + n;
         if !precedes(&book[from..to], &book[at..sign]) {
-            return Listing::NoBook;
+            return Err(Refusal::BookForm);
         }
         let same = labels::same_label(label, &book[at..sign]);
         let start = sign + 1;
@@ -155,9 +122,10 @@ fn look_up(book: &[u8], label: &[u8]) -> Listing
         from = at;
         to = sign;
         at = end + 1;
-        found = found_with(found, same, start, end);
+        // the first text that is found stays
+        found = found.or(same.then_some((start, end)));
     }
-    found
+    Ok(found)
 }
 
 // The bytes of the log from a place on; none where they are not all inside it.
@@ -174,32 +142,18 @@ fn bytes_at<'a>(log: &'a [u8], place: usize, length: usize) -> &'a [u8]
     &log[place..end]
 }
 
-// The refusal where the piece is no label: the book comes before it.
-fn refusal_without_label(found: Listing) -> u8
-    ensures { result ≡ without_label found }
-{
-    match found {
-        Listing::NoBook => return 27,
-        Listing::Text(_, _) => return 13,
-        Listing::Missing => return 13,
-    }
-}
-
 // Where the text of the label stands that has these bytes of the log, or why there is none.
-pub fn piece_for(book: &[u8], log: &[u8], place: usize, length: usize) -> Piece
+pub fn piece_for(book: &[u8], log: &[u8], place: usize, length: usize) -> Result<Piece, Refusal>
     ensures { TellsPiece book.now log.now place length result }
 {
     let label = bytes_at(log, place, length);
-    let found = look_up(book, label);
-    let form = labels::is_label(label);
-    if !form {
-        let number = refusal_without_label(found);
-        return Piece::Refused(number);
+    let found = look_up(book, label)?;
+    if !labels::is_label(label) {
+        return Err(Refusal::LineLabel);
     }
     match found {
-        Listing::NoBook => return Piece::Refused(27),
-        Listing::Text(start, end) => return Piece::InBook(start, end),
-        Listing::Missing => return Piece::InLog(place, place + length),
+        Some((start, end)) => Ok(Piece::InBook(start, end)),
+        None => Ok(Piece::InLog(place, place + length)),
     }
 }
 
@@ -207,10 +161,11 @@ pub fn piece_for(book: &[u8], log: &[u8], place: usize, length: usize) -> Piece
 pub fn text_for<'a>(book: &'a [u8], log: &'a [u8], place: usize, length: usize) -> &'a [u8]
     ensures { Hands book.entry log.entry place length result }
 {
-    let p = piece_for(book, log, place, length);
-    match p {
-        Piece::InBook(start, end) => return &book[start..end],
-        Piece::InLog(start, end) => return &log[start..end],
-        Piece::Refused(_) => return &log[0..0],
+    match piece_for(book, log, place, length) {
+        Ok(piece) => match piece {
+            Piece::InBook(start, end) => &book[start..end],
+            Piece::InLog(start, end) => &log[start..end],
+        },
+        Err(_) => &log[0..0],
     }
 }

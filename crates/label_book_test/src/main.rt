@@ -18,9 +18,9 @@ fn show<'a>(out: Stdout, name: &[u8], book: &'a [u8], log: &'a [u8], place: usiz
     test_text::write(out, b"' ");
     let p = label_book::piece_for(book, log, place, length);
     match p {
-        Piece::InBook(start, end) => show_place(out, b"book ", start, end),
-        Piece::InLog(start, end) => show_place(out, b"log ", start, end),
-        Piece::Refused(n) => test_text::write_refusal(out, n),
+        Ok(Piece::InBook(start, end)) => show_place(out, b"book ", start, end),
+        Ok(Piece::InLog(start, end)) => show_place(out, b"log ", start, end),
+        Err(refusal) => test_text::write_refusal(out, u8::from(refusal)),
     }
     test_text::write(out, b"\n");
 }

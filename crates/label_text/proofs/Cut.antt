@@ -3,7 +3,6 @@
 use Prim.Native.Nat.{ℕ, ◌+◌, ◌<◌}
 use mathlib.Core.Path.{◌≡◌, refl, ap, sym, ◌∙◌}
 use mathlib.Core.Bool.{Bool, true, false, ◌&&◌}
-use mathlib.Core.Option.{Option, none, some}
 use mathlib.Core.List.{List, []}
 use native.Mathlib.Omega.{arith}
 use lib.Dec.{leb}
@@ -15,7 +14,10 @@ use Rattle.labels.proofs.Form.{form_long}
 use Rattle.label_book.specs.Book.{Entry}
 use Rattle.label_book.specs.Reading.{book_of}
 use Rattle.label_book.specs.Piece.{label_at?}
-use Rattle.label_book.specs.declared.Piece.TheVariants.{Refused}
+use Rattle.std.specs.Prelude.{Option, None, Some, Err}
+use Rattle.refusals.specs.Refusal.{number}
+use Rattle.refusals.specs.declared.Refusal.{Refusal}
+use Rattle.refusals.specs.declared.Refusal.TheVariants.{LineLabel, BookForm}
 use Rattle.label_book.proofs.Meaning.{no_lines, other_piece}
 use Rattle.told.specs.Told.{refusal_line}
 use Rattle.label_text.specs.Printed.{label_room, input_piece, piece_bytes, refused_line, text_printed, refusal_printed}
@@ -31,16 +33,16 @@ no_label label h =
     ap (λ (s : List ℕ). inside && label_form? (capitals s)) (take_all (length label) label (omega arith))
     ∙ (ap (λ (form : Bool). inside && form) (sym (form_long label h)) ∙ and-false inside)
 
--- the number with which a book refuses each long label
-long_refused : (book : List ℕ) → (c : ℕ) × ((label : List ℕ) → 24 < length label → input_piece book label ≡ Refused c)
+-- the refusal with which a book refuses each long label
+long_refused : (book : List ℕ) → (e : Refusal) × ((label : List ℕ) → 24 < length label → input_piece book label ≡ Err e)
 long_refused book = go (book_of book) refl
   where
-    go : (o : Option (List Entry)) → book_of book ≡ o → (c : ℕ) × ((label : List ℕ) → 24 < length label → input_piece book label ≡ Refused c)
-    go none e = (27, λ label h. no_lines book label 0 (length label) e)
-    go (some es) e = (13, λ label h. other_piece book label 0 (length label) es e (no_label label h))
+    go : (o : Option (List Entry)) → book_of book ≡ o → (e : Refusal) × ((label : List ℕ) → 24 < length label → input_piece book label ≡ Err e)
+    go None e = (BookForm, λ label h. no_lines book label 0 (length label) e)
+    go (Some es) e = (LineLabel, λ label h. other_piece book label 0 (length label) es e (no_label label h))
 
--- what the refusal's number decides for a refused label is decided by the first bytes
-module _ (book : List ℕ) (f : List ℕ → List ℕ) (s : ℕ → List ℕ) (told : (label : List ℕ) (c : ℕ) → input_piece book label ≡ Refused c → f label ≡ s c) where
+-- what the refusal decides for a refused label is decided by the first bytes
+module _ (book : List ℕ) (f : List ℕ → List ℕ) (s : Refusal → List ℕ) (told : (label : List ℕ) (e : Refusal) → input_piece book label ≡ Err e → f label ≡ s e) where
   first_bytes_decide : (input : List ℕ) → f (take label_room input) ≡ f input
   first_bytes_decide input =
       either_lt (length input) label_room
@@ -57,4 +59,4 @@ first_bytes_decide_text book = first_bytes_decide book (text_printed book) (λ _
 
 pub first_bytes_decide_refusal : (book input : List ℕ) → refusal_printed book (take label_room input) ≡ refusal_printed book input
 unfolding refusal_printed
-first_bytes_decide_refusal book = first_bytes_decide book (refusal_printed book) refusal_line (λ label c e. ap refused_line e)
+first_bytes_decide_refusal book = first_bytes_decide book (refusal_printed book) (λ e. refusal_line (number e)) (λ label c e. ap refused_line e)

@@ -224,19 +224,20 @@ pub extern "C" fn scene_log_label_text(
 ) -> u32
     ensures { TellsNumbers book.now log.now place length start.old size.old result start.new size.new }
 {
-    let p = label_book::piece_for(book, log, place, length);
-    match p {
-        Piece::InBook(first, end) => {
-            *start = first;
-            *size = end - first;
-            return 0;
-        }
-        Piece::InLog(first, end) => {
-            *start = first;
-            *size = end - first;
-            return 1;
-        }
-        Piece::Refused(n) => return (n as u32) * answer_numbers::REFUSAL_STEP,
+    match label_book::piece_for(book, log, place, length) {
+        Ok(piece) => match piece {
+            Piece::InBook(first, end) => {
+                *start = first;
+                *size = end - first;
+                0
+            }
+            Piece::InLog(first, end) => {
+                *start = first;
+                *size = end - first;
+                1
+            }
+        },
+        Err(refusal) => (u8::from(refusal) as u32) * answer_numbers::REFUSAL_STEP,
     }
 }
 

@@ -14,5 +14,5 @@ overflow_sub-size-in-InLog c = search piece-numbers
 pub returns-in-InLog : goal.returns-in-InLog
 returns-in-InLog c = search piece-numbers
 
-pub returns-in-Refused : goal.returns-in-Refused
-returns-in-Refused c = search piece-numbers
+pub returns-in-Err : goal.returns-in-Err
+returns-in-Err c = search piece-numbers

@@ -7,6 +7,7 @@ use mathlib.Core.List.{List, []}
 use native.Mathlib.Omega.{arith}
 use lib.Dec.{ltb}
 use lib.ListN.{length, get_or, take, replicate}
+use Rattle.std.specs.Prelude.{Result}
 use Rattle.lists.proofs.Cases.{never}
 use Rattle.rules.specs.Limits.{max_file_bytes}
 use Rattle.rules.specs.Formula.{Formula}
@@ -22,7 +23,7 @@ use Rattle.typed_formula.specs.Meaning.{formula_for}
 use Rattle.typed_grammar.specs.File.{labels_of}
 use Rattle.text_labels.specs.Pieces.{good_labels?}
 use Rattle.typed_checks.specs.Said.{judged}
-use Rattle.typed_checks.specs.declared.Decision.{Decision}
+use Rattle.refusals.specs.declared.Refusal.{Refusal}
 use Rattle.typed_file.specs.File.{file_from, file_of}
 use Rattle.typed_file.specs.Answer.{or_refused, answer_of, typed_answer}
 use Rattle.typed_file.proofs.ReadBack.{good_form, count_labels, label_long, label_byte}
@@ -42,7 +43,7 @@ unfolding typed_answer
 answer_read text room n e = not_short (ltb room max_file_bytes) (answer_of text (read_text text)) n e
 
 -- nor 5: each label has the right form
-decided-good : (m : ℕ) (f : Formula) (d : Decision) → Judgement m f d → (n k : ℕ) → or_refused d k ≡ Length n → good_labels? (labels_of f) ≡ true
+decided-good : (m : ℕ) (f : Formula) (d : Result ℕ Refusal) → Judgement m f d → (n k : ℕ) → or_refused d k ≡ Length n → good_labels? (labels_of f) ≡ true
 decided-good m f d (many_nodes x) n k e = never (cc)
 decided-good m f d (many_labels x) n k e = never (cc)
 decided-good m f d (wrong few g) n k e = never (cc)

@@ -10,6 +10,7 @@ use native.Mathlib.Omega.{arith}
 use lib.ListN.{length}
 use lib.Dec.{ltb}
 use borrow.Author.Tests.{le-ltb, ltb-true}
+use Rattle.std.specs.Prelude.{Ok}
 use Rattle.lists.specs.Lists.{all?}
 use Rattle.lists.proofs.Lists.{Free, free_more}
 use Rattle.grammar.specs.Written.{EachByte}
@@ -45,7 +46,6 @@ use Rattle.spelling.proofs.Texts.{write_text}
 use Rattle.output.specs.declared.Written.TheVariants as Written
 use Rattle.text_labels.specs.Pieces.{good_labels?}
 use Rattle.typed_checks.specs.Said.{judged}
-use Rattle.typed_checks.specs.declared.Decision.TheVariants as Decision
 use Rattle.typed_checks.proofs.Numbers.{Among}
 use Rattle.typed_file.specs.File.{file_of}
 use Rattle.typed_file.specs.Answer.{typed_answer}
@@ -92,13 +92,13 @@ size_said (Formula.pair p v w) d e s = refl
 
 -- a formula that meets no refusal behind the grammar
 judged_fine : (n : ℕ) (f : Formula) → n ≤ max_nodes → length (labels_of f) ≤ max_labels → good_labels? (labels_of f) ≡ true → scoped f no_scope ≡ true
-    → shallow max_nested f ≡ true → judged n f ≡ Decision.Labels (length (labels_of f))
+    → shallow max_nested f ≡ true → judged n f ≡ Ok (length (labels_of f))
 unfolding judged
 judged_fine n f a b c d e = rw (le-ltb max_nodes n a, le-ltb max_labels (length (labels_of f)) b, c, d, e) refl
 
 -- a text that is read and meets no refusal
 answer_fine : (text : List ℕ) (room : ℕ) (u : Kept.Tree) (m : ℕ) → max_file_bytes ≤ room → read_text text ≡ some u
-    → judged (size u) (formula_for text [] u) ≡ Decision.Labels m → typed_answer text room ≡ Written.Length (length (file_of text u))
+    → judged (size u) (formula_for text [] u) ≡ Ok m → typed_answer text room ≡ Written.Length (length (file_of text u))
 unfolding typed_answer
 answer_fine text room u m h e j = rw (le-ltb room max_file_bytes h, e, j) refl
 

@@ -6,12 +6,12 @@ use mathlib.Core.List.{List, []}
 use lib.ListN.{length, take}
 use Rattle.std.specs.declared.io.Error.{Error}
 use Rattle.input.specs.Filled.{Filled}
-use Rattle.std.specs.Prelude.{Ok, Err}
+use Rattle.std.specs.Prelude.{Result, Ok, Err}
 use Rattle.lists.proofs.Cases.{never}
 use Rattle.rules.specs.Limits.{max_file_bytes}
 use Rattle.atoms.specs.Tree.{Tree, size}
 use Rattle.typed.specs.Grammar.{read_text}
-use Rattle.typed_checks.specs.declared.Decision.{Decision}
+use Rattle.refusals.specs.declared.Refusal.{Refusal}
 use Rattle.typed_checks.specs.Said.{judged}
 use Rattle.typed_formula.specs.Meaning.{formula_for}
 use Rattle.typed_file.specs.Answer.{or_refused, answer_of, bytes_of, typed_answer, ReadsText}
@@ -23,9 +23,9 @@ use Rattle.rule_from_text.specs.Printed.{text_room, file_printed, refusal_printe
 use Rattle.rule_from_text.proofs.Cut.{first_bytes_decide_file, first_bytes_decide_refusal}
 
 -- the length that is answered is that of the file
-decided-length : (d : Decision) (n m : ℕ) → or_refused d n ≡ Length m → m ≡ n
-decided-length (Decision.Labels k) n m e = cc
-decided-length (Decision.Refused k) n m e = never cc
+decided-length : (d : Result ℕ Refusal) (n m : ℕ) → or_refused d n ≡ Length m → m ≡ n
+decided-length (Ok k) n m e = cc
+decided-length (Err k) n m e = never cc
 
 read_length : (text : List ℕ) (t : Option Tree) (m : ℕ) → answer_of text t ≡ Length m → m ≡ length (bytes_of text t)
 read_length text none m e = never cc

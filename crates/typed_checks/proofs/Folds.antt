@@ -9,13 +9,15 @@ use lib.Dec.{ltb}
 use lib.ListN.{length, get_or, take}
 use lib.Seq.{length-take-le}
 use borrow.Author.Tests.{lt-ltb, le-ltb, not-true, not-false}
+use Rattle.std.specs.Prelude.{Result, Ok, Err}
+use Rattle.refusals.specs.declared.Refusal.{Refusal}
+use Rattle.refusals.specs.declared.Refusal.TheVariants.{RuleCount, RuleLabel, RuleUnbound, RuleTooDeep}
 use Rattle.atoms.specs.Tree.{Tree, either, both, neg, exists, has, pair, size}
 use Rattle.atoms.specs.Emit.{Names, level, inside}
 use Rattle.typed_formula.proofs.Stands.{NodeIs, Stands}
 use Rattle.text_labels.specs.Pieces.{texts, good_labels?}
 use Rattle.typed_checks.specs.Fold.{Step, fold_nodes, fold_tree}
 use Rattle.typed_checks.specs.Tests.{bound_step, few_step, noted, Notes, places_in, ListsPlaces, decided, Decides}
-use Rattle.typed_checks.specs.declared.Decision.{Decision}
 
 -- ── loops ──
 module _ {S : Type 0} (f : Step S) (s₀ : S) (tb : List ℕ) where
@@ -79,43 +81,43 @@ module _ (text tb : List ℕ) (places₀ : List ℕ) where
 
 -- ── the decision ──
 module _ (text tb : List ℕ) (n : ℕ) (before : List ℕ) where
-  refusing : (after : List ℕ) (k : ℕ) → Decision.Refused k ≡ decided text tb n → length after ≡ length before → Decides text tb n before after (Decision.Refused k)
+  refusing : (after : List ℕ) (k : Refusal) → Err k ≡ decided text tb n → length after ≡ length before → Decides text tb n before after (Err k)
   refusing after k e l = record { answer = e; places = λ m f. absurd (let z : ◌≡◌ {A = ℕ} 0 1 = cc in omega arith); long = l }
 
-  pub decide_nodes : 64 < n → Decides text tb n before before (Decision.Refused 4)
+  pub decide_nodes : 64 < n → Decides text tb n before before (Err RuleCount)
   unfolding decided
-  decide_nodes h = refusing before 4 (sym (simp (lt-ltb 64 n h))) refl
+  decide_nodes h = refusing before RuleCount (sym (simp (lt-ltb 64 n h))) refl
 
   module _ (h : n ≤ 64) (after : List ℕ) (m : ℕ) (l : ListsPlaces text tb n before after m) where
     count_is : (b : Bool) → ltb 16 m ≡ b → ltb 16 (length (places_in text tb n)) ≡ b
     count_is b e = ap (ltb 16) (sym l.count) ∙ e
 
-    pub decide_labels : 16 < m → Decides text tb n before after (Decision.Refused 4)
+    pub decide_labels : 16 < m → Decides text tb n before after (Err RuleCount)
     unfolding decided
-    decide_labels k = refusing after 4 (sym (simp (le-ltb 64 n h, count_is true (lt-ltb 16 m k)))) l.long
+    decide_labels k = refusing after RuleCount (sym (simp (le-ltb 64 n h, count_is true (lt-ltb 16 m k)))) l.long
 
     module _ (k : m ≤ 16) (g : Bool) (eg : g ≡ good_labels? (texts text (take m after))) where
       good_is : g ≡ good_labels? (texts text (places_in text tb n))
       good_is = eg ∙ ap (λ (x : List ℕ). good_labels? (texts text x)) l.list
 
-      pub decide_form : not g ≡ true → Decides text tb n before after (Decision.Refused 5)
+      pub decide_form : not g ≡ true → Decides text tb n before after (Err RuleLabel)
       unfolding decided
-      decide_form f = refusing after 5 (sym (simp (le-ltb 64 n h, count_is false (le-ltb 16 m k), sym good_is ∙ not-true g f))) l.long
+      decide_form f = refusing after RuleLabel (sym (simp (le-ltb 64 n h, count_is false (le-ltb 16 m k), sym good_is ∙ not-true g f))) l.long
 
       module _ (f : not g ≡ false) (b : Bool) (eb : b ≡ fold_nodes bound_step true tb 0 n) where
-        pub decide_bound : not b ≡ true → Decides text tb n before after (Decision.Refused 9)
+        pub decide_bound : not b ≡ true → Decides text tb n before after (Err RuleUnbound)
         unfolding decided
-        decide_bound x = refusing after 9 (sym (simp (le-ltb 64 n h, count_is false (le-ltb 16 m k), sym good_is ∙ not-false g f, sym eb ∙ not-true b x))) l.long
+        decide_bound x = refusing after RuleUnbound (sym (simp (le-ltb 64 n h, count_is false (le-ltb 16 m k), sym good_is ∙ not-false g f, sym eb ∙ not-true b x))) l.long
 
         module _ (x : not b ≡ false) (d : Bool) (ed : d ≡ fold_nodes few_step true tb 0 n) where
-          pub decide_nested : not d ≡ true → Decides text tb n before after (Decision.Refused 10)
+          pub decide_nested : not d ≡ true → Decides text tb n before after (Err RuleTooDeep)
           unfolding decided
-          decide_nested y = refusing after 10 (sym (simp (le-ltb 64 n h, count_is false (le-ltb 16 m k), sym good_is ∙ not-false g f, sym eb ∙ not-false b x, sym ed ∙ not-true d y))) l.long
+          decide_nested y = refusing after RuleTooDeep (sym (simp (le-ltb 64 n h, count_is false (le-ltb 16 m k), sym good_is ∙ not-false g f, sym eb ∙ not-false b x, sym ed ∙ not-true d y))) l.long
 
-          pub decide_taken : not d ≡ false → 64 ≤ length before → Decides text tb n before after (Decision.Labels m)
+          pub decide_taken : not d ≡ false → 64 ≤ length before → Decides text tb n before after (Ok m)
           unfolding decided
           decide_taken y w = record {
-            answer = ap Decision.Labels l.count ∙ sym (simp (le-ltb 64 n h, count_is false (le-ltb 16 m k), sym good_is ∙ not-false g f, sym eb ∙ not-false b x, sym ed ∙ not-false d y));
+            answer = ap (λ (j : ℕ). Ok j) l.count ∙ sym (simp (le-ltb 64 n h, count_is false (le-ltb 16 m k), sym good_is ∙ not-false g f, sym eb ∙ not-false b x, sym ed ∙ not-false d y));
             places = λ j e. (let q : m ≡ j = cc in (ap (λ (i : ℕ). take i after) (sym q) ∙ l.list, omega arith, omega (arith, l.few, l.long)));
             long = l.long;
           }

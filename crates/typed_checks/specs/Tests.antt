@@ -1,11 +1,12 @@
 -- How the code works, not what it means.
 -- "Limits and numbers 4, 5, 9 and 10 carry over, met in that order after the grammar": over a table of nodes.
-use Rattle.std.specs.Prelude.{ℕ, ◌+◌, ◌≤◌, ◌≡◌, Bool, true, not, ◌&&◌, ◌||◌, cond, List, [], ◌∷◌, ◌++◌, eqb, ltb, length, take}
+use Rattle.std.specs.Prelude.{ℕ, ◌+◌, ◌≤◌, ◌≡◌, Bool, true, not, ◌&&◌, ◌||◌, cond, List, [], ◌∷◌, ◌++◌, eqb, ltb, length, take, Result, Ok, Err}
+use Rattle.refusals.specs.declared.Refusal.{Refusal}
+use Rattle.refusals.specs.declared.Refusal.TheVariants.{RuleCount, RuleLabel, RuleUnbound, RuleTooDeep}
 use Rattle.typed_formula.specs.Meaning.{label_text}
 use Rattle.typed_grammar.specs.File.{place_in}
 use Rattle.text_labels.specs.Pieces.{texts, good_labels?}
 use Rattle.typed_checks.specs.Fold.{Step, fold_nodes}
-use Rattle.typed_checks.specs.declared.Decision.{Decision}
 
 -- the names of kinds 4 to 8; 255 stands for a name that nothing binds
 unfoldable pub bound_step : Step Bool
@@ -36,17 +37,17 @@ pub record ListsPlaces (text tb : List ℕ) (n : ℕ) (before after : List ℕ) 
   pub long : length after ≡ length before
 
 -- the first refusal, or how many labels there are
-unfoldable pub decided : List ℕ → List ℕ → ℕ → Decision
+unfoldable pub decided : List ℕ → List ℕ → ℕ → Result ℕ Refusal
 decided text tb n =
-    cond (ltb 64 n) (Decision.Refused 4)
-    (cond (ltb 16 (length (places_in text tb n))) (Decision.Refused 4)
+    cond (ltb 64 n) (Err RuleCount)
+    (cond (ltb 16 (length (places_in text tb n))) (Err RuleCount)
     (cond (good_labels? (texts text (places_in text tb n)))
     (cond (fold_nodes bound_step true tb 0 n)
-    (cond (fold_nodes few_step true tb 0 n) (Decision.Labels (length (places_in text tb n))) (Decision.Refused 10))
-    (Decision.Refused 9))
-    (Decision.Refused 5)))
+    (cond (fold_nodes few_step true tb 0 n) (Ok (length (places_in text tb n))) (Err RuleTooDeep))
+    (Err RuleUnbound))
+    (Err RuleLabel)))
 
-pub record Decides (text tb : List ℕ) (n : ℕ) (before after : List ℕ) (r : Decision) : Type 0 where
+pub record Decides (text tb : List ℕ) (n : ℕ) (before after : List ℕ) (r : Result ℕ Refusal) : Type 0 where
   pub answer : r ≡ decided text tb n
-  pub places : (m : ℕ) → r ≡ Decision.Labels m → (take m after ≡ places_in text tb n) × (m ≤ 16) × (m ≤ length after)
+  pub places : (m : ℕ) → r ≡ Ok m → (take m after ≡ places_in text tb n) × (m ≤ 16) × (m ≤ length after)
   pub long : length after ≡ length before

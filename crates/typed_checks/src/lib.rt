@@ -8,14 +8,8 @@ ghost use Rattle.std.specs.Prelude.{◌≡◌, true, ◌+◌, ◌<◌, ◌≤◌
 ghost use Rattle.typed_checks.specs.Fold.{fold_nodes};
 ghost use Rattle.typed_checks.specs.Tests.{bound_step, few_step, Notes, ListsPlaces, Decides};
 
+use refusals::Refusal;
 use text_labels::{find, labels_ok};
-
-// The first refusal of a table; or how many labels it has.
-#[derive(Clone, Copy)]
-pub enum Decision {
-    Labels(usize),
-    Refused(u8),
-}
 
 // What all names before say, and whether those of a node are bound.
 fn bound_step(ok: bool, kind: usize, a: usize, b: usize) -> bool
@@ -101,25 +95,30 @@ fn label_places(text: &[u8], table: &[usize], n: usize, places: &mut [usize]) ->
 }
 
 // The first refusal of a table of n nodes; or how many labels it has, whose places are handed out.
-pub fn decide(text: &[u8], table: &[usize], n: usize, places: &mut [usize]) -> Decision
+pub fn decide(
+    text: &[u8],
+    table: &[usize],
+    n: usize,
+    places: &mut [usize],
+) -> Result<usize, Refusal>
     requires { (192 ≤ length table.now) × (64 ≤ length places.old) }
     ensures { Decides text.now table.now n places.old places.new result }
 {
     if rules::MAX_NODES < n {
-        return Decision::Refused(4);
+        return Err(Refusal::RuleCount);
     }
     let m = label_places(text, table, n, places);
     if rules::MAX_LABELS < m {
-        return Decision::Refused(4);
+        return Err(Refusal::RuleCount);
     }
     if !labels_ok(text, &places[..m]) {
-        return Decision::Refused(5);
+        return Err(Refusal::RuleLabel);
     }
     if !all_bound(table, n) {
-        return Decision::Refused(9);
+        return Err(Refusal::RuleUnbound);
     }
     if !few_nested(table, n) {
-        return Decision::Refused(10);
+        return Err(Refusal::RuleTooDeep);
     }
-    Decision::Labels(m)
+    Ok(m)
 }

@@ -9,7 +9,7 @@ use lib.Dec.{ltb}
 use lib.ListN.{length, take, drop, replicate, length-replicate}
 use lib.Seq.{take_at, length-take-le}
 use borrow.Author.Tests.{lt-ltb, le-ltb, ltb-false}
-use Rattle.std.specs.Prelude.{Some, None}
+use Rattle.std.specs.Prelude.{Some, None, Result, Ok, Err}
 use Rattle.rules.specs.Formula.{Formula, no_scope, scoped, shallow}
 use Rattle.output.specs.Output.{Appends}
 use Rattle.output.proofs.Output.{appends_front, appends_same}
@@ -25,7 +25,9 @@ use Rattle.text_labels.specs.Pieces.{texts, good_labels?}
 use Rattle.typed_checks.specs.Tests.{places_in, decided, Decides}
 use Rattle.typed_grammar.specs.File.{labels_of}
 use Rattle.typed_checks.specs.Said.{judged}
-use Rattle.typed_checks.specs.declared.Decision.{Decision}
+use Rattle.refusals.specs.Refusal.{number}
+use Rattle.refusals.specs.declared.Refusal.{Refusal}
+use Rattle.refusals.specs.declared.Refusal.TheVariants.{RuleCount, RuleLabel, RuleUnbound, RuleTooDeep}
 use Rattle.typed_checks.proofs.Judged.{table_labels, decided-judged}
 use Rattle.typed_file.specs.File.{file_from, file_of, Fit}
 use Rattle.typed_file.specs.Answer.{or_refused, answer_of, bytes_of, typed_answer, ReadsText}
@@ -65,20 +67,20 @@ has-tree text b n a none e x = absurd x
 has-tree text b n a (some t) e x = record { tree = t; reads = e; count = x.0; table = x.1 }
 
 -- ── what the decision says ──
-passed : (n : ℕ) (f : Formula) (m : ℕ) → judged n f ≡ Decision.Labels m → Passed n f
+passed : (n : ℕ) (f : Formula) (m : ℕ) → judged n f ≡ Ok m → Passed n f
 unfolding judged
 passed n f m e = go (ltb 64 n) (ltb 16 (length (labels_of f))) (good_labels? (labels_of f)) (scoped f no_scope) (shallow 4 f) refl refl refl refl refl e
   where
-    refuse : {X : Type 0} (k : ℕ) → Decision.Refused k ≡ Decision.Labels m → X
+    refuse : {X : Type 0} (k : Refusal) → Err k ≡ Ok m → X
     refuse k q = absurd (let z : ◌≡◌ {A = ℕ} 0 1 = cc in omega arith)
 
     go : (a b c d g : Bool) → ltb 64 n ≡ a → ltb 16 (length (labels_of f)) ≡ b → good_labels? (labels_of f) ≡ c → scoped f no_scope ≡ d → shallow 4 f ≡ g
-        → cond a (Decision.Refused 4) (cond b (Decision.Refused 4) (cond c (cond d (cond g (Decision.Labels (length (labels_of f))) (Decision.Refused 10)) (Decision.Refused 9)) (Decision.Refused 5))) ≡ Decision.Labels m → Passed n f
-    go true b c d g ea eb ec ed eg q = refuse 4 q
-    go false true c d g ea eb ec ed eg q = refuse 4 q
-    go false false false d g ea eb ec ed eg q = refuse 5 q
-    go false false true false g ea eb ec ed eg q = refuse 9 q
-    go false false true true false ea eb ec ed eg q = refuse 10 q
+        → cond a (Err RuleCount) (cond b (Err RuleCount) (cond c (cond d (cond g (Ok (length (labels_of f))) (Err RuleTooDeep)) (Err RuleUnbound)) (Err RuleLabel))) ≡ Ok m → Passed n f
+    go true b c d g ea eb ec ed eg q = refuse RuleCount q
+    go false true c d g ea eb ec ed eg q = refuse RuleCount q
+    go false false false d g ea eb ec ed eg q = refuse RuleLabel q
+    go false false true false g ea eb ec ed eg q = refuse RuleUnbound q
+    go false false true true false ea eb ec ed eg q = refuse RuleTooDeep q
     go false false true true true ea eb ec ed eg q = record { nodes = ltb-false 64 n ea; labels = ltb-false 16 (length (labels_of f)) eb; form = ec; closed = ed; nested = eg }
 
 -- ── the answers ──
@@ -109,17 +111,17 @@ module _ (text before : List ℕ) where
       full : 192 ≤ length {A = ℕ} (replicate 192 0)
       full = omega (arith, length-replicate {A = ℕ} 192 0)
 
-      module _ (p₀ p₁ : List ℕ) (d : Decision) (y : Decides text a n p₀ p₁ d) where
+      module _ (p₀ p₁ : List ℕ) (d : Result ℕ Refusal) (y : Decides text a n p₀ p₁ d) where
         judged_is : d ≡ judged (size there.tree) (formula_for text [] there.tree)
         judged_is = y.answer ∙ (ap₂ (decided text) there.table there.count ∙ decided-judged text (replicate 192 0) there.tree known full)
 
-        pub answer_refused : (k : ℕ) → d ≡ Decision.Refused k → ReadsText text before (Written.Refused k) before
-        answer_refused k q =
+        pub answer_refused : (k : Refusal) → d ≡ Err k → (w : ℕ) → w ≡ number k → ReadsText text before (Written.Refused w) before
+        answer_refused k q w v =
             let t = there.tree in
-            let g : judged (size t) (formula_for text [] t) ≡ Decision.Refused k = sym judged_is ∙ q in
-            no_file k (asked (Written.Refused k) (some t) there.reads (sym (ap (λ (z : Decision). or_refused z (length (file_of text t))) g)))
+            let g : judged (size t) (formula_for text [] t) ≡ Err k = sym judged_is ∙ q in
+            no_file w (asked (Written.Refused w) (some t) there.reads (ap Written.Refused v ∙ sym (ap (λ (z : Result ℕ Refusal). or_refused z (length (file_of text t))) g)))
 
-        module _ (m : ℕ) (q : d ≡ Decision.Labels m) where
+        module _ (m : ℕ) (q : d ≡ Ok m) where
           pass : Passed (size there.tree) (formula_for text [] there.tree)
           pass = passed (size there.tree) (formula_for text [] there.tree) m (sym judged_is ∙ q)
 
@@ -150,9 +152,9 @@ module _ (text before : List ℕ) where
               let v : Appends before 0 file after z = appends_same before after _ _ 0 z same-file w in
               let long : length file ≡ z = omega (arith, v.end) in
               let left : after ≡ file ++ drop z before = appends_front before after file z v ∙ ap (λ (i : ℕ). file ++ drop i before) long in
-              let g : judged (size t) (formula_for text [] t) ≡ Decision.Labels m = sym judged_is ∙ q in
+              let g : judged (size t) (formula_for text [] t) ≡ Ok m = sym judged_is ∙ q in
               record {
-                answer = asked (Written.Length z) (some t) there.reads (ap Written.Length (sym long) ∙ sym (ap (λ (i : Decision). or_refused i (length file)) g));
+                answer = asked (Written.Length z) (some t) there.reads (ap Written.Length (sym long) ∙ sym (ap (λ (i : Result ℕ Refusal). or_refused i (length file)) g));
                 left = left ∙ ap (λ (o : Option Tree). bytes_of text o ++ drop z before) (sym there.reads);
                 written = λ i u. (let zi : z ≡ i = cc in record {
                   tree = t;

@@ -1,5 +1,5 @@
 -- What reading a typed rule answers, and the buffer that it leaves.
-use Rattle.std.specs.Prelude.{ℕ, ◌≤◌, ◌≡◌, cond, List, [], ltb, length, take}
+use Rattle.std.specs.Prelude.{ℕ, ◌≤◌, ◌≡◌, cond, List, [], ltb, length, take, Result, Ok, Err}
 use Rattle.std.proofs.Math.Option.{Option, none, some}
 use Rattle.rules.specs.Limits.{max_file_bytes}
 use Rattle.rules.specs.Rules.{Taken, formula_of}
@@ -8,15 +8,16 @@ use Rattle.atoms.specs.Tree.{Tree, size}
 use Rattle.typed.specs.Grammar.{read_text}
 use Rattle.typed_formula.specs.Meaning.{formula_for}
 use Rattle.typed_checks.specs.Said.{judged}
-use Rattle.typed_checks.specs.declared.Decision.{Decision}
+use Rattle.refusals.specs.Refusal.{number}
+use Rattle.refusals.specs.declared.Refusal.{Refusal}
 use Rattle.typed_file.specs.File.{file_of}
 use Rattle.output.specs.Written.{left_by}
 use Rattle.output.specs.declared.Written.{Written}
 
 -- a file of n bytes, where nothing refuses it
-abbrev pub or_refused : Decision → ℕ → Written
-or_refused (Decision.Labels m) n = Written.Length n
-or_refused (Decision.Refused k) n = Written.Refused k
+abbrev pub or_refused : Result ℕ Refusal → ℕ → Written
+or_refused (Ok m) n = Written.Length n
+or_refused (Err e) n = Written.Refused (number e)
 
 -- "Answers: 25 for text outside the grammar"; "4, 5, 9 and 10 carry over, met in that order after the grammar"
 abbrev pub answer_of : List ℕ → Option Tree → Written

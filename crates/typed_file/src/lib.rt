@@ -26,15 +26,8 @@ pub fn rule_from_text(text: &[u8], out: &mut [u8]) -> Written
         return Written::Refused(25);
     };
     let mut places = [0usize; 64];
-    let decision = typed_checks::decide(text, &table[..], n, &mut places[..]);
-    match decision {
-        typed_checks::Decision::Refused(k) => Written::Refused(k),
-        typed_checks::Decision::Labels(m) => Written::Length(write_file(
-            text,
-            &table[..],
-            n,
-            &places[..m],
-            out,
-        )),
+    match typed_checks::decide(text, &table[..], n, &mut places[..]) {
+        Err(refusal) => Written::Refused(u8::from(refusal)),
+        Ok(m) => Written::Length(write_file(text, &table[..], n, &places[..m], out)),
     }
 }

@@ -4,12 +4,14 @@ use mathlib.Core.Path.{◌≡◌}
 use mathlib.Core.Bool.{true, false}
 use lib.ListN.{length}
 use borrow.Author.Tests.{lt-ltb, le-ltb}
+use Rattle.std.specs.Prelude.{Result, Ok, Err}
 use Rattle.lists.proofs.Cases.{either_lt, either_bool}
 use Rattle.rules.specs.Formula.{Formula, no_scope, scoped, shallow}
 use Rattle.typed_grammar.specs.File.{labels_of}
 use Rattle.text_labels.specs.Pieces.{good_labels?}
 use Rattle.typed_checks.specs.Said.{judged}
-use Rattle.typed_checks.specs.declared.Decision.{Decision}
+use Rattle.refusals.specs.declared.Refusal.{Refusal}
+use Rattle.refusals.specs.declared.Refusal.TheVariants.{RuleCount, RuleLabel, RuleUnbound, RuleTooDeep}
 use Rattle.typed_file.proofs.TakenFile.{Passed}
 
 -- at most 64 nodes, and at most 16 labels
@@ -18,21 +20,21 @@ pub record Few (n : ℕ) (f : Formula) : Type 0 where
   pub labels : length (labels_of f) ≤ 16
 
 -- a decision on a formula of n nodes, and why
-pub data Judgement (n : ℕ) (f : Formula) : Decision → Type 0 where
-  many_nodes : 64 < n → Judgement n f (Decision.Refused 4)
-  many_labels : 16 < length (labels_of f) → Judgement n f (Decision.Refused 4)
-  wrong : Few n f → good_labels? (labels_of f) ≡ false → Judgement n f (Decision.Refused 5)
-  open_name : Few n f → good_labels? (labels_of f) ≡ true → scoped f no_scope ≡ false → Judgement n f (Decision.Refused 9)
-  deep : Few n f → good_labels? (labels_of f) ≡ true → scoped f no_scope ≡ true → shallow 4 f ≡ false → Judgement n f (Decision.Refused 10)
-  fine : Passed n f → Judgement n f (Decision.Labels (length (labels_of f)))
+pub data Judgement (n : ℕ) (f : Formula) : Result ℕ Refusal → Type 0 where
+  many_nodes : 64 < n → Judgement n f (Err RuleCount)
+  many_labels : 16 < length (labels_of f) → Judgement n f (Err RuleCount)
+  wrong : Few n f → good_labels? (labels_of f) ≡ false → Judgement n f (Err RuleLabel)
+  open_name : Few n f → good_labels? (labels_of f) ≡ true → scoped f no_scope ≡ false → Judgement n f (Err RuleUnbound)
+  deep : Few n f → good_labels? (labels_of f) ≡ true → scoped f no_scope ≡ true → shallow 4 f ≡ false → Judgement n f (Err RuleTooDeep)
+  fine : Passed n f → Judgement n f (Ok (length (labels_of f)))
 
 -- ── a test that refuses, and one that does not ──
 module _ (n : ℕ) (f : Formula) where
-  pub judged_nodes : 64 < n → judged n f ≡ Decision.Refused 4
+  pub judged_nodes : 64 < n → judged n f ≡ Err RuleCount
   unfolding judged
   judged_nodes h = simp (lt-ltb 64 n h)
 
-  pub judged_labels : 16 < length (labels_of f) → judged n f ≡ Decision.Refused 4
+  pub judged_labels : 16 < length (labels_of f) → judged n f ≡ Err RuleCount
   unfolding judged
   judged_labels h =
       either_lt 64 n
@@ -40,19 +42,19 @@ module _ (n : ℕ) (f : Formula) where
       (λ l. simp (le-ltb 64 n l, lt-ltb 16 (length (labels_of f)) h))
 
   module _ (few : Few n f) where
-    pub judged-wrong : good_labels? (labels_of f) ≡ false → judged n f ≡ Decision.Refused 5
+    pub judged-wrong : good_labels? (labels_of f) ≡ false → judged n f ≡ Err RuleLabel
     unfolding judged
     judged-wrong e = simp (le-ltb 64 n few.nodes, le-ltb 16 (length (labels_of f)) few.labels, e)
 
-    pub judged_open : good_labels? (labels_of f) ≡ true → scoped f no_scope ≡ false → judged n f ≡ Decision.Refused 9
+    pub judged_open : good_labels? (labels_of f) ≡ true → scoped f no_scope ≡ false → judged n f ≡ Err RuleUnbound
     unfolding judged
     judged_open e s = simp (le-ltb 64 n few.nodes, le-ltb 16 (length (labels_of f)) few.labels, e, s)
 
-    pub judged-deep : good_labels? (labels_of f) ≡ true → scoped f no_scope ≡ true → shallow 4 f ≡ false → judged n f ≡ Decision.Refused 10
+    pub judged-deep : good_labels? (labels_of f) ≡ true → scoped f no_scope ≡ true → shallow 4 f ≡ false → judged n f ≡ Err RuleTooDeep
     unfolding judged
     judged-deep e s d = simp (le-ltb 64 n few.nodes, le-ltb 16 (length (labels_of f)) few.labels, e, s, d)
 
-  judged_fine : Passed n f → judged n f ≡ Decision.Labels (length (labels_of f))
+  judged_fine : Passed n f → judged n f ≡ Ok (length (labels_of f))
   unfolding judged
   judged_fine p = simp (le-ltb 64 n p.nodes, le-ltb 16 (length (labels_of f)) p.labels, p.form, p.closed, p.nested)
 

@@ -8,6 +8,9 @@ use mathlib.Core.List.{List, []}
 use native.Mathlib.Omega.{arith}
 use lib.ListN.{length, replicate, length-replicate}
 use borrow.Author.Tests.{lt-ltb, le-ltb}
+use Rattle.std.specs.Prelude.{Result, Ok, Err}
+use Rattle.refusals.specs.Refusal.{number, RefusedWith}
+use Rattle.refusals.proofs.Answers.{refused_number, refused_ok}
 use Rattle.lists.proofs.Cases.{either_lt, either_bool, never}
 use Rattle.rules.specs.Formula.{Formula, no_scope, scoped, shallow}
 use Rattle.grammar.specs.Written.{IsLabel}
@@ -27,7 +30,8 @@ use Rattle.typed_grammar.proofs.Codes.{Codes}
 use Rattle.typed_grammar.proofs.Sound.{reads-says}
 use Rattle.typed_grammar.proofs.Complete.{says-reads}
 use Rattle.typed_checks.specs.Said.{judged}
-use Rattle.typed_checks.specs.declared.Decision.{Decision}
+use Rattle.refusals.specs.declared.Refusal.{Refusal}
+use Rattle.refusals.specs.declared.Refusal.TheVariants.{RuleCount, RuleLabel, RuleUnbound, RuleTooDeep}
 use Rattle.typed_file.specs.File.{file_of}
 use Rattle.typed_file.specs.Answer.{or_refused, answer_of, bytes_of, typed_answer}
 use Rattle.typed_file.proofs.TakenFile.{Passed, rule, file_rule, file-formula}
@@ -51,15 +55,15 @@ unfolding typed_answer
 answer_long text room h = simp (le-ltb room 599 h)
 
 -- the answer is what is decided on it
-decided_refused : (d : Decision) (n c : ℕ) → or_refused d n ≡ Written.Refused c → d ≡ Decision.Refused c
-decided_refused (Decision.Labels m) n c e = never (cc)
-decided_refused (Decision.Refused k) n c e = cc
+decided_refused : (d : Result ℕ Refusal) (n c : ℕ) → or_refused d n ≡ Written.Refused c → RefusedWith c d
+decided_refused (Ok m) n c e = never (cc)
+decided_refused (Err k) n c e = (k, (refl, (let q : number k ≡ c = cc in q)))
 
-answer_decided : (text : List ℕ) (room : ℕ) (u : Kept.Tree) (c : ℕ) → 599 ≤ room → read_text text ≡ some u
-    → judged (size u) (formula_for text [] u) ≡ Decision.Refused c → typed_answer text room ≡ Written.Refused c
-answer_decided text room u c h e j =
+answer_decided : (text : List ℕ) (room : ℕ) (u : Kept.Tree) (k : Refusal) → 599 ≤ room → read_text text ≡ some u
+    → judged (size u) (formula_for text [] u) ≡ Err k → typed_answer text room ≡ Written.Refused (number k)
+answer_decided text room u k h e j =
     answer_long text room h
-    ∙ (ap (answer_of text) e ∙ ap (λ (d : Decision). or_refused d (length (file_of text u))) j)
+    ∙ (ap (answer_of text) e ∙ ap (λ (d : Result ℕ Refusal). or_refused d (length (file_of text u))) j)
 
 -- ── a text inside the grammar ──
 module _ (text : List ℕ) (t : Tree) (u : Kept.Tree) (codes : Codes text t u) where
@@ -81,19 +85,19 @@ module _ (text : List ℕ) (t : Tree) (u : Kept.Tree) (codes : Codes text t u) w
   }
 
   -- a refusal that is decided is met
-  decided_met : (room c : ℕ) → 599 ≤ room → Says text t → (d : Decision) → Judgement (size u) (formula_for text [] u) d → d ≡ Decision.Refused c
+  decided_met : (room c : ℕ) → 599 ≤ room → Says text t → (d : Result ℕ Refusal) → Judgement (size u) (formula_for text [] u) d → RefusedWith c d
       → MetText text room c
-  decided_met room c h s d (many_nodes m) e = too_many h t s (TooMany.nodes (omega (arith, codes_size text t u codes))) (cc)
-  decided_met room c h s d (many_labels m) e = too_many h t s (TooMany.labels _ (listed-different codes) m) (cc)
+  decided_met room c h s d (many_nodes m) e = too_many h t s (TooMany.nodes (omega (arith, codes_size text t u codes))) (refused_number d c RuleCount refl e)
+  decided_met room c h s d (many_labels m) e = too_many h t s (TooMany.labels _ (listed-different codes) m) (refused_number d c RuleCount refl e)
   decided_met room c h s d (wrong few g) e =
       let (l, i, n) = bad_label codes g in
-      wrong_label h t s (few_not_many few) l i n (cc)
+      wrong_label h t s (few_not_many few) l i n (refused_number d c RuleLabel refl e)
   decided_met room c h s d (open_name few g o) e =
       let (n, i) = unscoped_free text t u codes few.nodes o in
-      unbound h t s (few_not_many few) (good_labels codes g) n i (cc)
+      unbound h t s (few_not_many few) (good_labels codes g) n i (refused_number d c RuleUnbound refl e)
   decided_met room c h s d (deep few g o k) e =
-      nested h t s (few_not_many few) (good_labels codes g) (scoped_no_free text t u codes few.nodes o) (deep-nested text t u codes k) (cc)
-  decided_met room c h s d (fine p) e = never (cc)
+      nested h t s (few_not_many few) (good_labels codes g) (scoped_no_free text t u codes few.nodes o) (deep-nested text t u codes k) (refused_number d c RuleTooDeep refl e)
+  decided_met room c h s d (fine p) e = refused_ok d c _ refl e
 
   -- what the tests answer: on the labels, on the names, on their nesting and on the counts
   labels_good : ((l : List ℕ) → LabelIn l t → IsLabel l) → good_labels? (labels_of (formula_for text [] u)) ≡ true
@@ -117,7 +121,7 @@ module _ (text : List ℕ) (t : Tree) (u : Kept.Tree) (codes : Codes text t u) w
   names_deep : Nested 5 t → shallow 4 (formula_for text [] u) ≡ false
   names_deep k = either_bool (shallow 4 (formula_for text [] u)) (λ o. absurd (shallow_not_nested text t u codes o k)) (λ o. o)
 
-  many_decided : TooMany t → judged (size u) (formula_for text [] u) ≡ Decision.Refused 4
+  many_decided : TooMany t → judged (size u) (formula_for text [] u) ≡ Err RuleCount
   many_decided (TooMany.nodes m) = judged_nodes (size u) (formula_for text [] u) (omega (arith, codes_size text t u codes))
   many_decided (TooMany.labels ls d m) = judged_labels (size u) (formula_for text [] u) (omega (arith, different-few codes ls d))
 
@@ -151,23 +155,23 @@ met_refused text room c (outside h n e) =
     answer_long text room h ∙ (ap (answer_of text) (outside_none text n) ∙ ap Written.Refused (sym e))
 met_refused text room c (too_many h t s m e) =
     let (u, r, k) = says-reads text t s in
-    answer_decided text room u c h r (many_decided text t u k m ∙ ap Decision.Refused (sym e))
+    answer_decided text room u RuleCount h r (many_decided text t u k m) ∙ ap Written.Refused (sym e)
 met_refused text room c (wrong_label h t s m l i n e) =
     let (u, r, k) = says-reads text t s in
     let few = not_many_few text t u k m in
-    answer_decided text room u c h r
-    (judged-wrong (size u) (formula_for text [] u) few (labels_bad text t u k l i n) ∙ ap Decision.Refused (sym e))
+    answer_decided text room u RuleLabel h r
+    (judged-wrong (size u) (formula_for text [] u) few (labels_bad text t u k l i n)) ∙ ap Written.Refused (sym e)
 met_refused text room c (unbound h t s m g n i e) =
     let (u, r, k) = says-reads text t s in
     let few = not_many_few text t u k m in
-    answer_decided text room u c h r
-    (judged_open (size u) (formula_for text [] u) few (labels_good text t u k g) (name_free text t u k few.nodes n i) ∙ ap Decision.Refused (sym e))
+    answer_decided text room u RuleUnbound h r
+    (judged_open (size u) (formula_for text [] u) few (labels_good text t u k g) (name_free text t u k few.nodes n i)) ∙ ap Written.Refused (sym e)
 met_refused text room c (nested h t s m g b d e) =
     let (u, r, k) = says-reads text t s in
     let few = not_many_few text t u k m in
-    answer_decided text room u c h r
-    (judged-deep (size u) (formula_for text [] u) few (labels_good text t u k g) (names_bound text t u k few.nodes b) (names_deep text t u k d)
-    ∙ ap Decision.Refused (sym e))
+    answer_decided text room u RuleTooDeep h r
+    (judged-deep (size u) (formula_for text [] u) few (labels_good text t u k g) (names_bound text t u k few.nodes b) (names_deep text t u k d))
+    ∙ ap Written.Refused (sym e)
 
 -- the numbers that are met: 20, 25, 4, 5, 9 and 10
 met_numbers : (text : List ℕ) (room c : ℕ) → MetText text room c → (1 ≤ c) × (c ≤ 25)
@@ -206,7 +210,7 @@ file_said text t u k s p =
     }
 
 -- an answer that is a length has passed every test, and is the file's length
-decided-length : (m : ℕ) (f : Formula) (d : Decision) → Judgement m f d → (n k : ℕ) → or_refused d k ≡ Written.Length n → Passed m f × (k ≡ n)
+decided-length : (m : ℕ) (f : Formula) (d : Result ℕ Refusal) → Judgement m f d → (n k : ℕ) → or_refused d k ≡ Written.Length n → Passed m f × (k ≡ n)
 decided-length m f d (many_nodes x) n k e = never (cc)
 decided-length m f d (many_labels x) n k e = never (cc)
 decided-length m f d (wrong few g) n k e = never (cc)

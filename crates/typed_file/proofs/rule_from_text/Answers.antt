@@ -10,16 +10,16 @@ pub returns-in_default : goal.returns-in_default
 returns-in_default c = answer_outside _ _ c.if-out-lt-FILE_ROOM.false _ c.in_default.ensures
 
 pub slice_bounds-places-end : goal.slice_bounds-places-end
-slice_bounds-places-end c = places_inside _ c.args.out.now c.if-out-lt-FILE_ROOM.false _ _ c.in-Some.ensures _ _ _ c.decide-decision.ensures _ c.in-Labels.is
+slice_bounds-places-end c = places_inside _ c.args.out.now c.if-out-lt-FILE_ROOM.false _ _ c.in-Some.ensures _ _ _ c.decide.ensures _ c.in-Ok.is
 
-pub slice_bounds-write_file-end-in-Labels : goal.slice_bounds-write_file-end-in-Labels
-slice_bounds-write_file-end-in-Labels c = places_count _ c.args.out.now c.if-out-lt-FILE_ROOM.false _ _ c.in-Some.ensures _ _ _ c.decide-decision.ensures _ c.in-Labels.is
+pub slice_bounds-write_file-end-in-Ok : goal.slice_bounds-write_file-end-in-Ok
+slice_bounds-write_file-end-in-Ok c = places_count _ c.args.out.now c.if-out-lt-FILE_ROOM.false _ _ c.in-Some.ensures _ _ _ c.decide.ensures _ c.in-Ok.is
 
 pub write_file-requires : goal.write_file-requires
-write_file-requires c = record { fit = answer_fits _ c.args.out.now c.if-out-lt-FILE_ROOM.false _ _ c.in-Some.ensures _ _ _ c.decide-decision.ensures _ c.in-Labels.is; in_bounds = search rules }
+write_file-requires c = record { fit = answer_fits _ c.args.out.now c.if-out-lt-FILE_ROOM.false _ _ c.in-Some.ensures _ _ _ c.decide.ensures _ c.in-Ok.is; in_bounds = search rules }
 
-pub returns-in-Refused : goal.returns-in-Refused
-returns-in-Refused c = answer_refused _ _ c.if-out-lt-FILE_ROOM.false _ _ c.in-Some.ensures _ _ _ c.decide-decision.ensures _ c.in-Refused.is
+pub returns-in-Err : goal.returns-in-Err
+returns-in-Err c = answer_refused _ _ c.if-out-lt-FILE_ROOM.false _ _ c.in-Some.ensures _ _ _ c.decide.ensures _ c.in-Err.is _ c.from.ensures
 
-pub returns-in-Labels : goal.returns-in-Labels
-returns-in-Labels c = answer_written _ c.args.out.now c.if-out-lt-FILE_ROOM.false _ _ c.in-Some.ensures _ _ _ c.decide-decision.ensures _ c.in-Labels.is _ _ c.write_file.ensures
+pub returns-in-Ok : goal.returns-in-Ok
+returns-in-Ok c = answer_written _ c.args.out.now c.if-out-lt-FILE_ROOM.false _ _ c.in-Some.ensures _ _ _ c.decide.ensures _ c.in-Ok.is _ _ c.write_file.ensures

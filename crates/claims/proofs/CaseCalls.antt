@@ -21,7 +21,9 @@ use Rattle.pairs.specs.Layout.{work_size}
 use Rattle.pairs.specs.Pairs.{work_of}
 use Rattle.rules.specs.declared.Rule.{Rule}
 use Rattle.std.specs.Prelude.{Result, Ok, Err}
+use Rattle.refusals.specs.Refusal.{number, RefusedWith}
 use Rattle.refusals.specs.declared.Refusal.{Refusal}
+use Rattle.refusals.proofs.Numbers.{number-injective}
 use Rattle.rules.specs.Limits.{max_file_bytes}
 use Rattle.rules.specs.Formula.{Formula}
 use Rattle.rules.specs.Rules.{rule_of, formula_of}
@@ -65,10 +67,7 @@ use Rattle.rule_text.specs.Text.{text_room, text_answer}
 use Rattle.slip_form.specs.declared.Slip.{Slip}
 use Rattle.slip_form.specs.Form.{SlipForm}
 use Rattle.slip_form.specs.Slips.{slip_runs}
-use Rattle.slips.specs.declared.Finding.{Finding}
-use Rattle.slips.specs.declared.Found.TheVariants as Found
-use Rattle.slips.specs.declared.Passing.{Passing}
-use Rattle.slips.specs.Answers.{without_slip, FindsIn, ReadsIn, SlipCall, FindsFirst, ReadsSlip}
+use Rattle.slips.specs.Answers.{Finding, Passing, FindsIn, ReadsIn, SlipCall, FindsFirst, ReadsSlip}
 use Rattle.letter_case.specs.Recased.{RecasedLog, RecasedRule, RecasedText}
 use Rattle.letter_case.proofs.Lines.{lines_recased, line_recased}
 use Rattle.letter_case.proofs.Rules.{rule_recased, formula_recased, recased_back}
@@ -379,11 +378,15 @@ writing_case j k p e =
     (a, j.writes.left ∙ ((λ i. left_by (a i) (l i) (e i)) ∙ sym k.writes.left))
 
 -- ── slips ──
+-- two answers that are refused with one number are one
+one_refusal : {A : Type 0} (a b : Result A Refusal) (c : ℕ) → RefusedWith c a → RefusedWith c b → a ≡ b
+one_refusal a b c p q = p.1.0 ∙ (ap (λ (e : Refusal). Err e) (number-injective p.0 q.0 (p.1.1 ∙ sym q.1.1)) ∙ sym q.1.0)
+
 -- two calls on slips that refuse alike, and say of each trace what is one answer
-slip_case : {A : Type 0} (file file' : List ℕ) (p : RecasedRule file file') (r : Record) (a b : A) (answer : ℕ → A) (says : (c : A) (t : Trace) (f : Formula) → SlipForm f → Type 0)
+slip_case : {A : Type 0} (file file' : List ℕ) (p : RecasedRule file file') (r : Record) (a b : Result A Refusal) (says : (c : Result A Refusal) (t : Trace) (f : Formula) → SlipForm f → Type 0)
     → ((t : Trace) (f : Formula) (s : SlipForm f) → says a t f s → says b t f s → a ≡ b)
-    → SlipCall file r (λ n. a ≡ answer n) (says a) → SlipCall file' r (λ n. b ≡ answer n) (says b) → a ≡ b
-slip_case {A} file file' p r a b answer says one j k = by_rule (rule_of file) refl
+    → SlipCall file r (λ n. RefusedWith n a) (says a) → SlipCall file' r (λ n. RefusedWith n b) (says b) → a ≡ b
+slip_case {A} file file' p r a b says one j k = by_rule (rule_of file) refl
   where
     other : {q : Result Rule Refusal} → rule_of file ≡ q → rule_of file' ≡ q
     other e = sym (rule_same file file' p) ∙ e
@@ -401,23 +404,23 @@ slip_case {A} file file' p r a b answer says one j k = by_rule (rule_of file) re
 
     by_record : (x : Rule) (e : rule_of file ≡ Ok x) (s : SlipForm (formula_of file x)) → (c : Bool) → Tells c (Valid r) → a ≡ b
     by_record x e s true d = known x e s (d.yes refl)
-    by_record x e s false d = j.no_record x e s (d.no refl) ∙ sym (k.no_record x (other e) (there x e s) (d.no refl))
+    by_record x e s false d = one_refusal a b 21 (j.no_record x e s (d.no refl)) (k.no_record x (other e) (there x e s) (d.no refl))
 
     by_form : (x : Rule) (e : rule_of file ≡ Ok x) (c : Bool) → Tells c (SlipForm (formula_of file x)) → a ≡ b
     by_form x e true d = let w = j.decided x e (d.yes refl) in by_record x e (d.yes refl) w.0 w.1
-    by_form x e false d = j.other_form x e (d.no refl) ∙ sym (k.other_form x (other e) (λ s. d.no refl (back x e s)))
+    by_form x e false d = one_refusal a b 26 (j.other_form x e (d.no refl)) (k.other_form x (other e) (λ s. d.no refl (back x e s)))
 
     by_rule : (q : Result Rule Refusal) → rule_of file ≡ q → a ≡ b
-    by_rule (Err n) e = j.rule n e ∙ sym (k.rule n (other e))
+    by_rule (Err n) e = one_refusal a b (number n) (j.rule n e) (k.rule n (other e))
     by_rule (Ok x) e = let w = j.form x e in by_form x e w.0 w.1
 
 finding_case : (file file' : List ℕ) → RecasedRule file file' → (r : Record) (a b : Finding) → FindsFirst file r a → FindsFirst file' r b → a ≡ b
 finding_case file file' p r a b j k =
-    slip_case file file' p r a b (λ n. without_slip (Found.Refused n)) (λ c t f s. FindsIn t f s c) (λ t f s u v. u.answer ∙ sym v.answer) j k
+    slip_case file file' p r a b (λ c t f s. FindsIn t f s c) (λ t f s u v. u.answer ∙ sym v.answer) j k
 
 passing_case : (file file' : List ℕ) → RecasedRule file file' → (r : Record) (x : Slip) (a b : Passing) → ReadsSlip file r x a → ReadsSlip file' r x b → a ≡ b
 passing_case file file' p r x a b j k =
-    slip_case file file' p r a b Passing.Refused (λ c t f s. ReadsIn t f s (slip_runs x) c) (λ t f s u v. u.answer ∙ sym v.answer) j k
+    slip_case file file' p r a b (λ c t f s. ReadsIn t f s (slip_runs x) c) (λ t f s u v. u.answer ∙ sym v.answer) j k
 
 pub no_difference : NoDifference
 no_difference =

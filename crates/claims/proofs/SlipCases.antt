@@ -20,7 +20,7 @@ use Rattle.rules.specs.Table.{read_nodes, tree, formula_at}
 use Rattle.rules.specs.Checks.{times_named, once_below, whole_table}
 use Rattle.rules.specs.declared.Rule.{Rule}
 use Rattle.std.specs.Prelude.{Ok, Err}
-use Rattle.refusals.specs.declared.Refusal.TheVariants.{RuleTooDeep}
+use Rattle.refusals.specs.declared.Refusal.TheVariants.{NoFinishedRun, RuleTooDeep}
 use Rattle.rules.specs.Rules.{rule_of, formula_of}
 use Rattle.rules.proofs.Worked.{p1-taken, p1-formula, p10-taken, p10-formula}
 use Rattle.logic.specs.Model.{eval}
@@ -30,10 +30,9 @@ use Rattle.slip_form.specs.Slips.{bind_each, unbound, Before, run_no, slip_runs,
 use Rattle.slip_form.specs.Chain.{chain_of, part_of, slip_form?}
 use Rattle.slip_form.proofs.Forms.{form_tells, one_chain}
 use Rattle.slip_form.specs.declared.Slip.{Slip}
-use Rattle.slips.specs.declared.Found.TheVariants as Found
-use Rattle.slips.specs.declared.Finding.{Finding}
-use Rattle.slips.specs.declared.Passing.{Passing}
-use Rattle.slips.specs.Answers.{with_slip, without_slip, least_below, first_runs, found_in, fits?, passing_in, FindsFirst, ReadsSlip}
+use Rattle.refusals.specs.Refusal.{RefusedWith}
+use Rattle.refusals.proofs.Answers.{refused_with}
+use Rattle.slips.specs.Answers.{Finding, Passing, with_slip, without_slip, least_below, first_runs, found_in, fits?, passing_in, FindsFirst, ReadsSlip}
 use Rattle.whole_log.specs.Cases.{p1_log, p1_trace}
 use Rattle.claims.specs.SlipCases.{bound_twice, five_some, none_before, all_other, no_test_four_times, bare_five, row_log, row_trace, three_lines, three_trace, SlipCases}
 
@@ -70,19 +69,19 @@ p1-reads : (ks : List ℕ) (a : Passing) → ReadsSlip p1_file (record_of p1_tra
 unfolding p1_form
 p1-reads ks a h = (h.known p1_rule p1-taken p1_form p1_log p1_trace p1-accepted refl).answer
 
-reads_both : passing_in p1_trace (0 ∷ 1 ∷ []) evening_includes_test (slip_runs (slip_of (0 ∷ 1 ∷ []))) ≡ Passing.Passes
+reads_both : passing_in p1_trace (0 ∷ 1 ∷ []) evening_includes_test (slip_runs (slip_of (0 ∷ 1 ∷ []))) ≡ Ok true
 unfolding passing_in fits? eval label_of pad
 reads_both = refl
 
-reads_turned : passing_in p1_trace (0 ∷ 1 ∷ []) evening_includes_test (slip_runs (slip_of (1 ∷ 0 ∷ []))) ≡ Passing.DoesNot
+reads_turned : passing_in p1_trace (0 ∷ 1 ∷ []) evening_includes_test (slip_runs (slip_of (1 ∷ 0 ∷ []))) ≡ Ok false
 unfolding passing_in fits? eval label_of pad
 reads_turned = refl
 
-reads_one : passing_in p1_trace (0 ∷ 1 ∷ []) evening_includes_test (slip_runs (slip_of (0 ∷ []))) ≡ Passing.Refused 22
+reads_one : passing_in p1_trace (0 ∷ 1 ∷ []) evening_includes_test (slip_runs (slip_of (0 ∷ []))) ≡ Err NoFinishedRun
 unfolding passing_in fits? eval label_of pad
 reads_one = refl
 
-reads_absent : passing_in p1_trace (0 ∷ 1 ∷ []) evening_includes_test (slip_runs (slip_of (0 ∷ 2 ∷ []))) ≡ Passing.Refused 22
+reads_absent : passing_in p1_trace (0 ∷ 1 ∷ []) evening_includes_test (slip_runs (slip_of (0 ∷ 2 ∷ []))) ≡ Err NoFinishedRun
 unfolding passing_in fits? eval label_of pad
 reads_absent = refl
 
@@ -162,23 +161,23 @@ row_reads : (ks : List ℕ) (a : Passing) → ReadsSlip none_before (record_of r
 unfolding none_form
 row_reads ks a h = (h.known none_rule none_taken none_form row_log row_trace row_accepted refl).answer
 
-row-02 : passing_in row_trace (0 ∷ 1 ∷ []) (pair before 0 1) (slip_runs (slip_of (0 ∷ 2 ∷ []))) ≡ Passing.Passes
+row-02 : passing_in row_trace (0 ∷ 1 ∷ []) (pair before 0 1) (slip_runs (slip_of (0 ∷ 2 ∷ []))) ≡ Ok true
 unfolding passing_in fits? eval label_of pad
 row-02 = refl
 
-row-12 : passing_in row_trace (0 ∷ 1 ∷ []) (pair before 0 1) (slip_runs (slip_of (1 ∷ 2 ∷ []))) ≡ Passing.Passes
+row-12 : passing_in row_trace (0 ∷ 1 ∷ []) (pair before 0 1) (slip_runs (slip_of (1 ∷ 2 ∷ []))) ≡ Ok true
 unfolding passing_in fits? eval label_of pad
 row-12 = refl
 
-row-11 : passing_in row_trace (0 ∷ 1 ∷ []) (pair before 0 1) (slip_runs (slip_of (1 ∷ 1 ∷ []))) ≡ Passing.DoesNot
+row-11 : passing_in row_trace (0 ∷ 1 ∷ []) (pair before 0 1) (slip_runs (slip_of (1 ∷ 1 ∷ []))) ≡ Ok false
 unfolding passing_in fits? eval label_of pad
 row-11 = refl
 
-row-03 : passing_in row_trace (0 ∷ 1 ∷ []) (pair before 0 1) (slip_runs (slip_of (0 ∷ 3 ∷ []))) ≡ Passing.Refused 22
+row-03 : passing_in row_trace (0 ∷ 1 ∷ []) (pair before 0 1) (slip_runs (slip_of (0 ∷ 3 ∷ []))) ≡ Err NoFinishedRun
 unfolding passing_in fits? eval label_of pad
 row-03 = refl
 
-row-012 : passing_in row_trace (0 ∷ 1 ∷ []) (pair before 0 1) (slip_runs (slip_of (0 ∷ 1 ∷ 2 ∷ []))) ≡ Passing.Refused 22
+row-012 : passing_in row_trace (0 ∷ 1 ∷ []) (pair before 0 1) (slip_runs (slip_of (0 ∷ 1 ∷ 2 ∷ []))) ≡ Err NoFinishedRun
 unfolding passing_in fits? eval label_of pad
 row-012 = refl
 
@@ -186,13 +185,13 @@ number_found : (a : Finding) → FindsFirst all_other (record_of p1_trace) a →
 unfolding other_formed found_in first_runs least_below eval label_of pad
 number_found a h = (h.known other_rule other_taken other_formed p1_log p1_trace p1-accepted refl).answer ∙ refl
 
-three_found : (a : Finding) → FindsFirst p1_file (record_of three_trace) a → a ≡ without_slip Found.Nothing
+three_found : (a : Finding) → FindsFirst p1_file (record_of three_trace) a → a ≡ without_slip
 unfolding p1_form found_in first_runs least_below eval label_of pad
 three_found a h = (h.known p1_rule p1-taken p1_form three_lines three_trace three-accepted refl).answer ∙ refl
 
-three-reads : (a : Passing) → ReadsSlip p1_file (record_of three_trace) (slip_of (0 ∷ 1 ∷ [])) a → a ≡ Passing.Refused 22
+three-reads : (a : Passing) → ReadsSlip p1_file (record_of three_trace) (slip_of (0 ∷ 1 ∷ [])) a → RefusedWith 22 a
 unfolding p1_form passing_in fits? eval label_of pad
-three-reads a h = (h.known p1_rule p1-taken p1_form three_lines three_trace three-accepted refl).answer ∙ refl
+three-reads a h = refused_with a 22 NoFinishedRun ((h.known p1_rule p1-taken p1_form three_lines three_trace three-accepted refl).answer ∙ refl) refl
 
 four_found : (a : Finding) → FindsFirst no_test_four_times (record_of p1_trace) a → a ≡ with_slip (slip_of (0 ∷ 0 ∷ 0 ∷ 1 ∷ []))
 unfolding four_form found_in first_runs least_below eval label_of pad
@@ -203,11 +202,11 @@ four-reads : (x : Slip) (a : Passing) → ReadsSlip no_test_four_times (record_o
 unfolding four_form
 four-reads x a h = (h.known four_rule four-taken four_form p1_log p1_trace p1-accepted refl).answer
 
-four-1000 : passing_in p1_trace (0 ∷ 0 ∷ 0 ∷ 0 ∷ []) (has 0 (bytes "TEST")) (slip_runs (slip_of (1 ∷ 0 ∷ 0 ∷ 0 ∷ []))) ≡ Passing.DoesNot
+four-1000 : passing_in p1_trace (0 ∷ 0 ∷ 0 ∷ 0 ∷ []) (has 0 (bytes "TEST")) (slip_runs (slip_of (1 ∷ 0 ∷ 0 ∷ 0 ∷ []))) ≡ Ok false
 unfolding passing_in fits? eval label_of pad
 four-1000 = refl
 
-four-5 : passing_in p1_trace (0 ∷ 0 ∷ 0 ∷ 0 ∷ []) (has 0 (bytes "TEST")) (slip_runs (record { count = 5; run = (slip_of (0 ∷ 0 ∷ 0 ∷ 1 ∷ [])).run })) ≡ Passing.Refused 22
+four-5 : passing_in p1_trace (0 ∷ 0 ∷ 0 ∷ 0 ∷ []) (has 0 (bytes "TEST")) (slip_runs (record { count = 5; run = (slip_of (0 ∷ 0 ∷ 0 ∷ 1 ∷ [])).run })) ≡ Err NoFinishedRun
 unfolding passing_in fits? eval label_of pad
 four-5 = refl
 
@@ -261,8 +260,8 @@ slip_cases =
       p1 = p1_found;
       p1-passes = λ a h. p1-reads (0 ∷ 1 ∷ []) a h ∙ reads_both;
       p1_turned = λ a h. p1-reads (1 ∷ 0 ∷ []) a h ∙ reads_turned;
-      p1_one_run = λ a h. p1-reads (0 ∷ []) a h ∙ reads_one;
-      p1_absent = λ a h. p1-reads (0 ∷ 2 ∷ []) a h ∙ reads_absent;
+      p1_one_run = λ a h. refused_with a 22 NoFinishedRun (p1-reads (0 ∷ []) a h ∙ reads_one) refl;
+      p1_absent = λ a h. refused_with a 22 NoFinishedRun (p1-reads (0 ∷ 2 ∷ []) a h ∙ reads_absent) refl;
       form = evening_form;
       some_below = some_below_chain;
       no_not = bare_some;
@@ -275,14 +274,14 @@ slip_cases =
       row_later = λ a h. row_reads (0 ∷ 2 ∷ []) a h ∙ row-02;
       row_last = λ a h. row_reads (1 ∷ 2 ∷ []) a h ∙ row-12;
       row_twice = λ a h. row_reads (1 ∷ 1 ∷ []) a h ∙ row-11;
-      row_open = λ a h. row_reads (0 ∷ 3 ∷ []) a h ∙ row-03;
-      row_three = λ a h. row_reads (0 ∷ 1 ∷ 2 ∷ []) a h ∙ row-012;
+      row_open = λ a h. refused_with a 22 NoFinishedRun (row_reads (0 ∷ 3 ∷ []) a h ∙ row-03) refl;
+      row_three = λ a h. refused_with a 22 NoFinishedRun (row_reads (0 ∷ 1 ∷ 2 ∷ []) a h ∙ row-012) refl;
       by_number = number_found;
       none = three_found;
       none_open = three-reads;
       four = four_found;
       four_turned = λ a h. four-reads (slip_of (1 ∷ 0 ∷ 0 ∷ 0 ∷ [])) a h ∙ four-1000;
-      five_runs = λ a h. four-reads (record { count = 5; run = (slip_of (0 ∷ 0 ∷ 0 ∷ 1 ∷ [])).run }) a h ∙ four-5;
+      five_runs = λ a h. refused_with a 22 NoFinishedRun (four-reads (record { count = 5; run = (slip_of (0 ∷ 0 ∷ 0 ∷ 1 ∷ [])).run }) a h ∙ four-5) refl;
       places = places_are;
       behind = refl;
       one_some = one_formed;

@@ -10,9 +10,11 @@ use Rattle.trace.specs.declared.Record.{Record}
 use Rattle.trace.specs.Trace.{Trace, Accepted}
 use Rattle.trace.specs.Record.{record_of, Valid}
 use Rattle.rules.specs.declared.Rule.{Rule}
-use Rattle.std.specs.Prelude.{Result, Ok, Err}
-use Rattle.refusals.specs.Refusal.{number}
+use Rattle.std.specs.Prelude.{Some, None, Result, Ok, Err}
+use Rattle.refusals.specs.Refusal.{number, RefusedWith}
 use Rattle.refusals.specs.declared.Refusal.{Refusal}
+use Rattle.refusals.specs.declared.Refusal.TheVariants.{NoFinishedRun}
+use Rattle.refusals.proofs.Answers.{refused_number, refused_ok}
 use Rattle.rules.specs.Formula.{Formula, neg}
 use Rattle.rules.specs.Rules.{rule_of, formula_of}
 use Rattle.grammar.specs.MetRule.{MetRule}
@@ -30,10 +32,7 @@ use Rattle.report.specs.Calls.{LineCall}
 use Rattle.slip_form.specs.declared.Slip.{Slip}
 use Rattle.slip_form.specs.Form.{some_of, SlipForm}
 use Rattle.slip_form.specs.Slips.{bind_each, unbound, Fits, Passes, slip_runs, slip_of}
-use Rattle.slips.specs.declared.Found.{Found}
-use Rattle.slips.specs.declared.Finding.{Finding}
-use Rattle.slips.specs.declared.Passing.{Passing}
-use Rattle.slips.specs.Answers.{with_slip, without_slip, first_runs, found_in, fits?, passing_in, FindsIn, ReadsIn, SlipCall, FindsFirst, ReadsSlip}
+use Rattle.slips.specs.Answers.{Finding, Passing, with_slip, without_slip, first_runs, found_in, fits?, passing_in, FindsIn, ReadsIn, SlipCall, FindsFirst, ReadsSlip}
 use Rattle.slip_search.proofs.Places.{length-numbers}
 use Rattle.slips.proofs.Said.{some_passes}
 use Rattle.claims.specs.Demand1.{Listed}
@@ -109,66 +108,34 @@ slips_listed file r after c l (slip_record f m s n e) = omega arith
 slips_listed file r after c l (slip_then f m s log t acc e a) = l t f s a
 
 -- ── the finder ──
-found_of : (a : Finding) (f : Found) → a ≡ without_slip f → a.found ≡ f
-found_of a f e = ap (λ (x : Finding). x.found) e
-
-same_found : (c d : ℕ) (a : Finding) → a ≡ without_slip (Found.Refused d) → a.found ≡ Found.Refused c → d ≡ c
-same_found c d a p q = one d c (sym (found_of a (Found.Refused d) p) ∙ q)
-  where
-    one : (d c : ℕ) → Found.Refused d ≡ Found.Refused c → d ≡ c
-    one d c e = cc
-
-not_refused : {C : Type 0} (f : Found) (c : ℕ) → f ≡ Found.First → f ≡ Found.Refused c → C
-not_refused f c p q = absurd (let z : ◌≡◌ {A = ℕ} 0 1 = cc in omega arith)
-
-nothing_refused : {C : Type 0} (f : Found) (c : ℕ) → f ≡ Found.Nothing → f ≡ Found.Refused c → C
-nothing_refused f c p q = absurd (let z : ◌≡◌ {A = ℕ} 0 1 = cc in omega arith)
-
-not_nothing : {C : Type 0} (f : Found) → f ≡ Found.First → f ≡ Found.Nothing → C
-not_nothing f p q = absurd (let z : ◌≡◌ {A = ℕ} 0 1 = cc in omega arith)
+same_refused : {A : Type 0} (a : Result A Refusal) (c d : ℕ) → RefusedWith d a → RefusedWith c a → d ≡ c
+same_refused a c d p q = refused_number a d q.0 q.1.0 p ∙ q.1.1
 
 -- what is found is a slip or nothing
 found_either : {C : Type 0} (t : Trace) (f : Formula) (s : SlipForm f) (a : Finding) → FindsIn t f s a
-    → ((x : Slip) → a ≡ with_slip x → C) → (a ≡ without_slip Found.Nothing → C) → C
+    → ((x : Slip) → a ≡ with_slip x → C) → (a ≡ without_slip → C) → C
 unfolding found_in
 found_either t f s a w slip none =
     either_bool (eval (model_of t) unbound (some_of s.variables s.part))
     (λ e. slip (slip_of (first_runs (model_of t) unbound s.variables s.part)) (w.answer ∙ simp e))
     (λ e. none (w.answer ∙ simp e))
 
-never_refused : (t : Trace) (f : Formula) (s : SlipForm f) (a : Finding) (c : ℕ) → FindsIn t f s a → a.found ≡ Found.Refused c → ⊥
-never_refused t f s a c w q =
-    found_either t f s a w (λ x e. not_refused a.found c (ap (λ (y : Finding). y.found) e) q) (λ e. nothing_refused a.found c (found_of a Found.Nothing e) q)
-
-finding_kept : (file : List ℕ) (r : Record) (a : Finding) (h : FindsFirst file r a) (c : ℕ) → a.found ≡ Found.Refused c → a ≡ without_slip (Found.Refused c)
-finding_kept file r a h c q = go (answered file r (λ n. a ≡ without_slip (Found.Refused n)) (λ t f s. FindsIn t f s a) h)
-  where
-    by : (n : ℕ) → a ≡ without_slip (Found.Refused n) → a ≡ without_slip (Found.Refused c)
-    by n e = e ∙ ap (λ (k : ℕ). without_slip (Found.Refused k)) (same_found c n a e q)
-
-    go : Answered file r (λ n. a ≡ without_slip (Found.Refused n)) (λ t f s. FindsIn t f s a) h → a ≡ without_slip (Found.Refused c)
-    go (refused_by n e m) = by n e
-    go (other_form f m n e) = by 26 e
-    go (no_record f m s n e) = by 21 e
-    go (known f m s log t acc e w) = absurd (never_refused t f s a c w q)
+never_refused : (t : Trace) (f : Formula) (s : SlipForm f) (a : Finding) (c : ℕ) → FindsIn t f s a → RefusedWith c a → ⊥
+never_refused t f s a c w q = found_either t f s a w (λ x e. refused_ok a c (Some x) e q) (λ e. refused_ok a c None e q)
 
 -- ── the reader ──
-same_passing : (c d : ℕ) (a : Passing) → a ≡ Passing.Refused d → a ≡ Passing.Refused c → d ≡ c
-same_passing c d a p q = cc
-
-read_number : (t : Trace) (f : Formula) (s : SlipForm f) (ks : List ℕ) (a : Passing) (n : ℕ) → ReadsIn t f s ks a → a ≡ Passing.Refused n → n ≡ 22
+read_number : (t : Trace) (f : Formula) (s : SlipForm f) (ks : List ℕ) (a : Passing) (n : ℕ) → ReadsIn t f s ks a → RefusedWith n a → n ≡ 22
 unfolding passing_in
 read_number t f s ks a n w q =
-    go (fits? t s.variables ks) (eval (model_of t) (bind_each unbound s.variables ks) s.part) (sym w.answer ∙ q)
+    go (fits? t s.variables ks) (eval (model_of t) (bind_each unbound s.variables ks) s.part) w.answer
   where
-    go : (x y : Bool) → cond x (cond y Passing.Passes Passing.DoesNot) (Passing.Refused 22) ≡ Passing.Refused n → n ≡ 22
-    go true true e = absurd (let z : ◌≡◌ {A = ℕ} 0 1 = cc in omega arith)
-    go true false e = absurd (let z : ◌≡◌ {A = ℕ} 0 1 = cc in omega arith)
-    go false y e = same_passing 22 n (Passing.Refused n) refl (sym e)
+    go : (x y : Bool) → a ≡ cond x (Ok y) (Err NoFinishedRun) → n ≡ 22
+    go true y e = refused_ok a n y e q
+    go false y e = refused_number a n NoFinishedRun e q
 
-read_met : (t : Trace) (f : Formula) (s : SlipForm f) (ks : List ℕ) (a : Passing) (n : ℕ) → ReadsIn t f s ks a → a ≡ Passing.Refused n
+read_met : (t : Trace) (f : Formula) (s : SlipForm f) (ks : List ℕ) (a : Passing) (n : ℕ) → ReadsIn t f s ks a → RefusedWith n a
     → (Fits t f s ks → ⊥) × (n ≡ 22)
-read_met t f s ks a n w q = let e = read_number t f s ks a n w q in (w.refused.0 (q ∙ ap Passing.Refused e), e)
+read_met t f s ks a n w q = let e = read_number t f s ks a n w q in (w.refused.0 (subst (λ (m : ℕ). RefusedWith m a) e q), e)
 
 -- ── the verdict ──
 under_not : (t : Trace) (f g : Formula) → f ≡ neg g → Satisfies t unbound f ↔ (Satisfies t unbound g → ⊥)
@@ -187,68 +154,53 @@ fails-passes f s t v w =
       λ p. said.1 (λ h. not_so.0 h ((some_passes t f s).1 p)),
     )
 
-fails_found : (f : Formula) (s : SlipForm f) (t : Trace) (a : Finding) → FindsIn t f s a → (v : Verdict) → Says t f v → (verdict_byte v ≡ 0) ↔ (a.found ≡ Found.First)
+fails_found : (f : Formula) (s : SlipForm f) (t : Trace) (a : Finding) → FindsIn t f s a → (v : Verdict) → Says t f v → (verdict_byte v ≡ 0) ↔ ((x : Slip) × (a ≡ with_slip x))
 fails_found f s t a w v says =
     let p = fails-passes f s t v says in (
-      λ e. found_either t f s a w (λ x q. ap (λ (y : Finding). y.found) q) (λ q. let k = p.0 e in absurd (w.none.0 q k.0 k.1)),
-      λ e. found_either t f s a w
-          (λ x q. p.1 (slip_runs x, ((w.slip x).0 q).passes))
-          (λ q. not_nothing a.found e (found_of a Found.Nothing q)),
+      λ e. found_either t f s a w (λ x q. (x, q)) (λ q. let k = p.0 e in absurd (w.none.0 q k.0 k.1)),
+      λ e. p.1 (slip_runs e.0, ((w.slip e.0).0 e.1).passes),
     )
 
-with_slip_lem : (a : Finding) → a.found ≡ Found.First → a ≡ with_slip a.slip
-with_slip_lem a e = ap (λ (f : Found). finding f a.slip) e
+passes_found : (file : List ℕ) (r : Record) (a : Finding) → FindsFirst file r a → (x : Slip) → a ≡ with_slip x → (b : Passing) → ReadsSlip file r x b → b ≡ Ok true
+passes_found file r a h x e b k = go (answered file r (λ n. RefusedWith n a) (λ t f s. FindsIn t f s a) h)
   where
-    finding : Found → Slip → Finding
-    finding f x = record { found = f; slip = x }
-
-passes_found : (file : List ℕ) (r : Record) (a : Finding) → FindsFirst file r a → a.found ≡ Found.First → (b : Passing) → ReadsSlip file r a.slip b → b ≡ Passing.Passes
-passes_found file r a h e b k = go (answered file r (λ n. a ≡ without_slip (Found.Refused n)) (λ t f s. FindsIn t f s a) h)
-  where
-    by : {C : Type 0} (n : ℕ) → a ≡ without_slip (Found.Refused n) → C
-    by n q = not_refused a.found n e (found_of a (Found.Refused n) q)
-
-    go : Answered file r (λ n. a ≡ without_slip (Found.Refused n)) (λ t f s. FindsIn t f s a) h → b ≡ Passing.Passes
-    go (refused_by n q m) = by n q
-    go (other_form f m n q) = by 26 q
-    go (no_record f m s n q) = by 21 q
+    go : Answered file r (λ n. RefusedWith n a) (λ t f s. FindsIn t f s a) h → b ≡ Ok true
+    go (refused_by n q m) = refused_ok a n (Some x) e q
+    go (other_form f m n q) = refused_ok a 26 (Some x) e q
+    go (no_record f m s n q) = refused_ok a 21 (Some x) e q
     go (known f m s log t acc q w) =
-        (of_file file r (λ n. b ≡ Passing.Refused n) (λ t f s. ReadsIn t f s (slip_runs a.slip) b) k f m s log t acc q).passes.1
-        ((w.slip a.slip).0 (with_slip_lem a e)).passes
+        (of_file file r (λ n. RefusedWith n b) (λ t f s. ReadsIn t f s (slip_runs x) b) k f m s log t acc q).passes.1 ((w.slip x).0 e).passes
 
 fails_line : (k : LineCall) (f : Formula) → RuleFile k.file f → SlipForm f → (log : List ℕ) (t : Trace) → Left k.layout log t k.state k.work
     → (v : Verdict) → k.answer.outcome ≡ judged v → (a : Finding) → FindsFirst k.file k.answer.state a
-    → (verdict_byte v ≡ 0) ↔ (a.found ≡ Found.First)
+    → (verdict_byte v ≡ 0) ↔ ((x : Slip) × (a ≡ with_slip x))
 fails_line k f m s log t left v e a h =
     let x = rule_file-taken k.file f m in
     let j = demand-2.line k x.0 x.1 log t left v e in
     let u = j.settled.left in
     fails_found f s j.settled.trace a
-    (of_file k.file k.answer.state (λ n. a ≡ without_slip (Found.Refused n)) (λ t f s. FindsIn t f s a) h f m s _ _ u.accepted u.encoded)
+    (of_file k.file k.answer.state (λ n. RefusedWith n a) (λ t f s. FindsIn t f s a) h f m s _ _ u.accepted u.encoded)
     v (subst (λ (g : Formula). Says j.settled.trace g v) x.2 j.verdict)
 
 pub the_slips : Slips
 the_slips =
     record {
       finding_refused = λ file r a h c.
-          let m = slips_met file r (λ n. a ≡ without_slip (Found.Refused n)) (λ t f s. FindsIn t f s a) h (λ n. a.found ≡ Found.Refused n) (λ t f s n. ⊥)
-          (λ n e. found_of a (Found.Refused n) e) (λ n d p q. same_found n d a p q) (λ t f s n w q. never_refused t f s a n w q) (λ t f s n w x. absurd x) c
-          in
-          record {
-            listed = λ e. slips_listed file r (λ t f s n. ⊥) c (λ t f s x. absurd x) (m.0 e);
-            just_where = m;
-            changes_nothing = finding_kept file r a h c;
-          };
+          lent_nothing c
+          (slips_met file r (λ n. RefusedWith n a) (λ t f s. FindsIn t f s a) h (λ n. RefusedWith n a) (λ t f s n. ⊥)
+          (λ n e. e) (λ n d p q. same_refused a n d p q) (λ t f s n w q. never_refused t f s a n w q) (λ t f s n w x. absurd x) c)
+          (slips_listed file r (λ t f s n. ⊥) c (λ t f s x. absurd x));
       passing_refused = λ file r x a h c.
           lent_nothing c
-          (slips_met file r (λ n. a ≡ Passing.Refused n) (λ t f s. ReadsIn t f s (slip_runs x) a) h (λ n. a ≡ Passing.Refused n) (λ t f s n. (Fits t f s (slip_runs x) → ⊥) × (n ≡ 22))
-          (λ n e. e) (λ n d p q. same_passing n d a p q) (λ t f s n w q. read_met t f s (slip_runs x) a n w q) (λ t f s n w z. w.refused.1 z.0 ∙ ap Passing.Refused (sym z.1)) c)
+          (slips_met file r (λ n. RefusedWith n a) (λ t f s. ReadsIn t f s (slip_runs x) a) h (λ n. RefusedWith n a) (λ t f s n. (Fits t f s (slip_runs x) → ⊥) × (n ≡ 22))
+          (λ n e. e) (λ n d p q. same_refused a n d p q) (λ t f s n w q. read_met t f s (slip_runs x) a n w q)
+          (λ t f s n w z. subst (λ (m : ℕ). RefusedWith m a) (sym z.1) (w.refused.1 z.0)) c)
           (slips_listed file r (λ t f s n. (Fits t f s (slip_runs x) → ⊥) × (n ≡ 22)) c (λ t f s z. omega (arith, z.1)));
-      passing = λ file r x a h f m s log t acc e. (of_file file r (λ n. a ≡ Passing.Refused n) (λ t f s. ReadsIn t f s (slip_runs x) a) h f m s log t acc e).passes;
+      passing = λ file r x a h f m s log t acc e. (of_file file r (λ n. RefusedWith n a) (λ t f s. ReadsIn t f s (slip_runs x) a) h f m s log t acc e).passes;
       verdict = λ f s log t acc v w. fails-passes f s t v w;
-      first = λ file r a h f m s log t acc e. (of_file file r (λ n. a ≡ without_slip (Found.Refused n)) (λ t f s. FindsIn t f s a) h f m s log t acc e).slip;
-      none = λ file r a h f m s log t acc e. (of_file file r (λ n. a ≡ without_slip (Found.Refused n)) (λ t f s. FindsIn t f s a) h f m s log t acc e).none;
-      found = λ file r a h f m s log t acc e v w. fails_found f s t a (of_file file r (λ n. a ≡ without_slip (Found.Refused n)) (λ t f s. FindsIn t f s a) h f m s log t acc e) v w;
+      first = λ file r a h f m s log t acc e. (of_file file r (λ n. RefusedWith n a) (λ t f s. FindsIn t f s a) h f m s log t acc e).slip;
+      none = λ file r a h f m s log t acc e. (of_file file r (λ n. RefusedWith n a) (λ t f s. FindsIn t f s a) h f m s log t acc e).none;
+      found = λ file r a h f m s log t acc e v w. fails_found f s t a (of_file file r (λ n. RefusedWith n a) (λ t f s. FindsIn t f s a) h f m s log t acc e) v w;
       line = fails_line;
       found_passes = passes_found;
       counted = λ x. length-numbers x.count x.run;

@@ -19,9 +19,7 @@ use Rattle.grammar.specs.Stands.{RuleFile}
 use Rattle.logic.specs.Satisfies.{HasLabel, SameLabel}
 use Rattle.single.specs.Line.{refusing}
 use Rattle.slip_form.specs.declared.Slip.{Slip}
-use Rattle.slips.specs.declared.Finding.{Finding}
-use Rattle.slips.specs.declared.Passing.{Passing}
-use Rattle.slips.specs.Answers.{FindsFirst, ReadsSlip}
+use Rattle.slips.specs.Answers.{Finding, Passing, FindsFirst, ReadsSlip}
 use Rattle.report.specs.Calls.{LineCall, TalliedCall, LogCall, ReportCall}
 use Rattle.output.specs.declared.Written.TheVariants.{Length}
 use Rattle.letter_case.specs.Recased.{InLabel, InQuotes, RecasedLog, RecasedRule, RecasedText}

@@ -11,10 +11,9 @@ use Rattle.rules.specs.Cases.{some_same_as_itself}
 use Rattle.slip_form.specs.Form.{SlipForm}
 use Rattle.slip_form.specs.declared.Slip.{Slip}
 use Rattle.slip_form.specs.Slips.{bind_each, unbound, Before, run_no, slip_runs, slip_of}
-use Rattle.slips.specs.declared.Finding.{Finding}
-use Rattle.slips.specs.declared.Found.TheVariants as Found
-use Rattle.slips.specs.declared.Passing.{Passing}
-use Rattle.slips.specs.Answers.{with_slip, without_slip, FindsFirst, ReadsSlip}
+use Rattle.std.specs.Prelude.{Ok, true, false}
+use Rattle.refusals.specs.Refusal.{RefusedWith}
+use Rattle.slips.specs.Answers.{Finding, Passing, with_slip, without_slip, FindsFirst, ReadsSlip}
 use Rattle.whole_log.specs.Cases.{p1_run, p1_trace}
 
 -- two "some" of one chain that bind the same variable
@@ -70,11 +69,11 @@ three_trace =
 pub record SlipCases : Type 0 where
   -- P1: runs 0 and 1 make the rule fail
   pub p1 : (a : Finding) → FindsFirst p1_file (record_of p1_trace) a → a ≡ with_slip (slip_of (0 ∷ 1 ∷ []))
-  pub p1-passes : (a : Passing) → ReadsSlip p1_file (record_of p1_trace) (slip_of (0 ∷ 1 ∷ [])) a → a ≡ Passing.Passes
-  pub p1_turned : (a : Passing) → ReadsSlip p1_file (record_of p1_trace) (slip_of (1 ∷ 0 ∷ [])) a → a ≡ Passing.DoesNot
-  pub p1_one_run : (a : Passing) → ReadsSlip p1_file (record_of p1_trace) (slip_of (0 ∷ [])) a → a ≡ Passing.Refused 22
+  pub p1-passes : (a : Passing) → ReadsSlip p1_file (record_of p1_trace) (slip_of (0 ∷ 1 ∷ [])) a → a ≡ Ok true
+  pub p1_turned : (a : Passing) → ReadsSlip p1_file (record_of p1_trace) (slip_of (1 ∷ 0 ∷ [])) a → a ≡ Ok false
+  pub p1_one_run : (a : Passing) → ReadsSlip p1_file (record_of p1_trace) (slip_of (0 ∷ [])) a → RefusedWith 22 a
   pub p1_absent : (a : Passing) → ReadsSlip p1_file (record_of p1_trace) (slip_of (0 ∷ 2 ∷ [])) a
-      → a ≡ Passing.Refused 22
+      → RefusedWith 22 a
   -- the form: "not" over a chain over a part without "some"; no "some" below, no bare "some", no "not" twice
   pub form : SlipForm no_evening_includes_test
   pub some_below : SlipForm no_test_without_run_after → ⊥
@@ -90,30 +89,30 @@ pub record SlipCases : Type 0 where
   -- several slips pass: each of them is read, and the first is found
   pub row : (a : Finding) → FindsFirst none_before (record_of row_trace) a → a ≡ with_slip (slip_of (0 ∷ 1 ∷ []))
   pub row_later : (a : Passing) → ReadsSlip none_before (record_of row_trace) (slip_of (0 ∷ 2 ∷ [])) a
-      → a ≡ Passing.Passes
+      → a ≡ Ok true
   pub row_last : (a : Passing) → ReadsSlip none_before (record_of row_trace) (slip_of (1 ∷ 2 ∷ [])) a
-      → a ≡ Passing.Passes
+      → a ≡ Ok true
   pub row_twice : (a : Passing) → ReadsSlip none_before (record_of row_trace) (slip_of (1 ∷ 1 ∷ [])) a
-      → a ≡ Passing.DoesNot
+      → a ≡ Ok false
   pub row_open : (a : Passing) → ReadsSlip none_before (record_of row_trace) (slip_of (0 ∷ 3 ∷ [])) a
-      → a ≡ Passing.Refused 22
+      → RefusedWith 22 a
   pub row_three : (a : Passing) → ReadsSlip none_before (record_of row_trace) (slip_of (0 ∷ 1 ∷ 2 ∷ [])) a
-      → a ≡ Passing.Refused 22
+      → RefusedWith 22 a
   -- by run numbers, and not by the order in which runs finish: run 1 finishes before run 0
   pub by_number : (a : Finding) → FindsFirst all_other (record_of p1_trace) a → a ≡ with_slip (slip_of (0 ∷ []))
   -- "none", while run 0 is open
-  pub none : (a : Finding) → FindsFirst p1_file (record_of three_trace) a → a ≡ without_slip Found.Nothing
+  pub none : (a : Finding) → FindsFirst p1_file (record_of three_trace) a → a ≡ without_slip
   pub none_open : (a : Passing) → ReadsSlip p1_file (record_of three_trace) (slip_of (0 ∷ 1 ∷ [])) a
-      → a ≡ Passing.Refused 22
+      → RefusedWith 22 a
   -- a chain of four; no slip of five runs, whatever its places hold
   pub four : (a : Finding) → FindsFirst no_test_four_times (record_of p1_trace) a
       → a ≡ with_slip (slip_of (0 ∷ 0 ∷ 0 ∷ 1 ∷ []))
   pub four_turned : (a : Passing) → ReadsSlip no_test_four_times (record_of p1_trace) (slip_of (1 ∷ 0 ∷ 0 ∷ 0 ∷ [])) a
-      → a ≡ Passing.DoesNot
+      → a ≡ Ok false
   pub five_runs : (a : Passing)
       → ReadsSlip no_test_four_times (record_of p1_trace)
       (record { count = 5; run = (slip_of (0 ∷ 0 ∷ 0 ∷ 1 ∷ [])).run }) a
-      → a ≡ Passing.Refused 22
+      → RefusedWith 22 a
   -- the places of a slip: those behind its count have no part, and are 0 in ours
   pub places : slip_of (4 ∷ 5 ∷ []) ≡ record { count = 2; run = run_no 4 ∷ run_no 5 ∷ run_no 0 ∷ run_no 0 ∷ [] }
   pub behind : slip_runs (record { count = 2; run = run_no 4 ∷ run_no 5 ∷ run_no 6 ∷ run_no 7 ∷ [] }) ≡ 4 ∷ 5 ∷ []
@@ -125,10 +124,10 @@ pub record SlipCases : Type 0 where
   pub no_some : SlipForm (neg (has 0 (bytes "TEST"))) → ⊥
   pub some_left : SlipForm (neg (exists 0 (both (exists 1 (pair before 0 1)) (has 0 (bytes "TEST"))))) → ⊥
   -- a rule of another form is 26 whatever the record and the slip
-  pub other_found : (r : Record) (a : Finding) → FindsFirst p10_file r a → a ≡ without_slip (Found.Refused 26)
-  pub other_read : (r : Record) (x : Slip) (a : Passing) → ReadsSlip p10_file r x a → a ≡ Passing.Refused 26
+  pub other_found : (r : Record) (a : Finding) → FindsFirst p10_file r a → RefusedWith 26 a
+  pub other_read : (r : Record) (x : Slip) (a : Passing) → ReadsSlip p10_file r x a → RefusedWith 26 a
   -- "26 for a rule of another form, after 10"; 22 "after 21"
-  pub ten_found : (r : Record) (a : Finding) → FindsFirst bare_five r a → a ≡ without_slip (Found.Refused 10)
-  pub ten_read : (r : Record) (x : Slip) (a : Passing) → ReadsSlip bare_five r x a → a ≡ Passing.Refused 10
+  pub ten_found : (r : Record) (a : Finding) → FindsFirst bare_five r a → RefusedWith 10 a
+  pub ten_read : (r : Record) (x : Slip) (a : Passing) → ReadsSlip bare_five r x a → RefusedWith 10 a
   pub spoiled_read : (r : Record) → (Valid r → ⊥) → (x : Slip) (a : Passing) → ReadsSlip p1_file r x a
-      → a ≡ Passing.Refused 21
+      → RefusedWith 21 a

@@ -15,10 +15,9 @@ use Rattle.report.specs.Calls.{LineCall}
 use Rattle.slip_form.specs.declared.Slip.{Slip}
 use Rattle.slip_form.specs.Form.{SlipForm}
 use Rattle.slip_form.specs.Slips.{Fits, Passes, slip_runs, FirstSlip}
-use Rattle.slips.specs.declared.Finding.{Finding}
-use Rattle.slips.specs.declared.Found.TheVariants as Found
-use Rattle.slips.specs.declared.Passing.{Passing}
-use Rattle.slips.specs.Answers.{with_slip, without_slip, FindsFirst, ReadsSlip}
+use Rattle.std.specs.Prelude.{Ok, true}
+use Rattle.refusals.specs.Refusal.{RefusedWith}
+use Rattle.slips.specs.Answers.{Finding, Passing, with_slip, without_slip, FindsFirst, ReadsSlip}
 use Rattle.claims.specs.Demand1.{Refuses}
 
 -- ── where the calls refuse ──
@@ -48,13 +47,13 @@ Of says file r =
 
 pub record Slips : Type 0 where
   pub finding_refused : (file : List ℕ) (r : Record) (a : Finding) → FindsFirst file r a → (c : ℕ)
-      → Refuses c (a.found ≡ Found.Refused c) (MetFinding file r c) (a ≡ without_slip (Found.Refused c))
+      → Refuses c (RefusedWith c a) (MetFinding file r c) (Unit {0})
   pub passing_refused : (file : List ℕ) (r : Record) (x : Slip) (a : Passing) → ReadsSlip file r x a → (c : ℕ)
-      → Refuses c (a ≡ Passing.Refused c) (MetPassing file r (slip_runs x) c) (Unit {0})
+      → Refuses c (RefusedWith c a) (MetPassing file r (slip_runs x) c) (Unit {0})
   -- "A small reader passes a slip if and only if all its runs are finished and the inner part is true of them"; the
   -- places of the slip behind its count have no part
   pub passing : (file : List ℕ) (r : Record) (x : Slip) (a : Passing) → ReadsSlip file r x a
-      → Of (λ t f s. (a ≡ Passing.Passes) ↔ Passes t f s (slip_runs x)) file r
+      → Of (λ t f s. (a ≡ Ok true) ↔ Passes t f s (slip_runs x)) file r
   -- "The verdict is F exactly when some slip passes"
   pub verdict : (f : Formula) (s : SlipForm f) (log : List ℕ) (t : Trace) → Accepted log t → (v : Verdict) → Says t f v
       → (verdict_byte v ≡ 0) ↔ ((ks : List ℕ) × Passes t f s ks)
@@ -62,15 +61,15 @@ pub record Slips : Type 0 where
   pub first : (file : List ℕ) (r : Record) (a : Finding) → FindsFirst file r a
       → Of (λ t f s. (x : Slip) → (a ≡ with_slip x) ↔ FirstSlip t f s x) file r
   pub none : (file : List ℕ) (r : Record) (a : Finding) → FindsFirst file r a
-      → Of (λ t f s. (a ≡ without_slip Found.Nothing) ↔ ((ks : List ℕ) → Passes t f s ks → ⊥)) file r
+      → Of (λ t f s. (a ≡ without_slip) ↔ ((ks : List ℕ) → Passes t f s ks → ⊥)) file r
   -- so a slip is found exactly where the verdict is F, and the reader passes it
   pub found : (file : List ℕ) (r : Record) (a : Finding) → FindsFirst file r a
-      → Of (λ t f s. (v : Verdict) → Says t f v → (verdict_byte v ≡ 0) ↔ (a.found ≡ Found.First)) file r
+      → Of (λ t f s. (v : Verdict) → Says t f v → (verdict_byte v ≡ 0) ↔ ((x : Slip) × (a ≡ with_slip x))) file r
   -- and so after a line that the single-line call takes
   pub line : (k : LineCall) (f : Formula) → RuleFile k.file f → SlipForm f → (log : List ℕ) (t : Trace)
       → Left k.layout log t k.state k.work → (v : Verdict) → k.answer.outcome ≡ judged v
-      → (a : Finding) → FindsFirst k.file k.answer.state a → (verdict_byte v ≡ 0) ↔ (a.found ≡ Found.First)
-  pub found_passes : (file : List ℕ) (r : Record) (a : Finding) → FindsFirst file r a → a.found ≡ Found.First
-      → (b : Passing) → ReadsSlip file r a.slip b → b ≡ Passing.Passes
+      → (a : Finding) → FindsFirst k.file k.answer.state a → (verdict_byte v ≡ 0) ↔ ((x : Slip) × (a ≡ with_slip x))
+  pub found_passes : (file : List ℕ) (r : Record) (a : Finding) → FindsFirst file r a → (x : Slip) → a ≡ with_slip x
+      → (b : Passing) → ReadsSlip file r x b → b ≡ Ok true
   -- "run numbers, one for each "some"": a slip has as many as its count says, places or not
   pub counted : (x : Slip) → length (slip_runs x) ≡ x.count

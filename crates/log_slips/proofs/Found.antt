@@ -1,6 +1,6 @@
 -- What the finder answers: a slip of at most four runs, and of a rule that has slips the answer that the text is made of.
 use Prim.Native.Nat.{ℕ, suc, ◌-◌, ◌≤◌}
-use mathlib.Core.Path.{◌≡◌, refl, ap, sym, ◌∙◌}
+use mathlib.Core.Path.{◌≡◌, refl, ap, sym, subst, ◌∙◌}
 use mathlib.Core.List.{List, [], ◌∷◌, ◌++◌, map}
 use native.Mathlib.Omega.{arith}
 use lib.ListN.{length, replicate}
@@ -12,8 +12,8 @@ use Rattle.trace.specs.Trace.{Trace}
 use Rattle.trace.specs.Record.{record_of, Valid}
 use Rattle.trace.proofs.Bounds.{accepted-bounded}
 use Rattle.rules.specs.declared.Rule.{Rule}
-use Rattle.std.specs.Prelude.{Result, Ok, Err}
-use Rattle.refusals.specs.Refusal.{number}
+use Rattle.std.specs.Prelude.{Result, Ok, Err, IfOk, IfSome}
+use Rattle.refusals.specs.Refusal.{number, RefusedWith}
 use Rattle.refusals.specs.declared.Refusal.{Refusal}
 use Rattle.rules.specs.Formula.{Formula, neg}
 use Rattle.rules.specs.Rules.{rule_of, formula_of}
@@ -22,9 +22,7 @@ use Rattle.logic.specs.Model.{Model, eval, model_of}
 use Rattle.logic.specs.Verdict.{verdict_of}
 use Rattle.slip_form.specs.Form.{some_of, SlipForm}
 use Rattle.slip_form.specs.Slips.{unbound, run_no, numbers, slip_runs, slip_of}
-use Rattle.slips.specs.declared.Found.{Found}
-use Rattle.slips.specs.declared.Finding.{Finding}
-use Rattle.slips.specs.Answers.{without_slip, first_runs, found_in, FindsFirst}
+use Rattle.slips.specs.Answers.{Finding, first_runs, found_in, FindsFirst}
 use Rattle.log_slips.specs.Printed.{slip_text, if_fails, fail_text}
 use Rattle.log_slips.specs.Walk.{found_text}
 
@@ -39,32 +37,35 @@ unfolding first_runs
 first_length m ρ [] g = refl
 first_length m ρ (v ∷ vs) g = ap suc (first_length m (bind ρ v _) vs g)
 
-count_in : (t : Trace) (vs : List ℕ) (g : Formula) → length vs ≤ 4 → (found_in t vs g).slip.count ≤ 4
+abbrev pub FewRuns : Finding → Type 0
+FewRuns a = IfOk a (λ o. IfSome o (λ x. x.count ≤ 4))
+
+count_in : (t : Trace) (vs : List ℕ) (g : Formula) → length vs ≤ 4 → FewRuns (found_in t vs g)
 unfolding found_in
 count_in t vs g h =
     either_bool (eval (model_of t) unbound (some_of vs g))
     (λ e. simp e (omega (arith, first_length (model_of t) unbound vs g)))
-    (λ e. simp e (omega arith))
+    (λ e. simp e tt)
 
-count_of : (a b : Finding) → a ≡ b → b.slip.count ≤ 4 → a.slip.count ≤ 4
-count_of a b e h = omega (arith, ap (λ (x : Finding). x.slip.count) e)
+refused_few : (a : Finding) (n : ℕ) → RefusedWith n a → FewRuns a
+refused_few a n w = subst FewRuns (sym w.1.0) tt
 
 module _ (file : List ℕ) (r : Record) (a : Finding) (f : FindsFirst file r a) where
-  pub found_few : Valid r → a.slip.count ≤ 4
+  pub found_few : Valid r → FewRuns a
   found_few v = on (rule_of file) refl
     where
-      formed : (x : Rule) → rule_of file ≡ Ok x → SlipForm (formula_of file x) → a.slip.count ≤ 4
+      formed : (x : Rule) → rule_of file ≡ Ok x → SlipForm (formula_of file x) → FewRuns a
       formed x p s =
-          count_of a (found_in v.trace s.variables s.part) (f.known x p s v.log v.trace v.accepted v.encoded).answer
+          subst FewRuns (sym (f.known x p s v.log v.trace v.accepted v.encoded).answer)
           (count_in v.trace s.variables s.part s.four)
 
-      on : (q : Result Rule Refusal) → rule_of file ≡ q → a.slip.count ≤ 4
-      on (Err n) p = count_of a (without_slip (Found.Refused (number n))) (f.rule n p) (omega arith)
+      on : (q : Result Rule Refusal) → rule_of file ≡ q → FewRuns a
+      on (Err n) p = refused_few a (number n) (f.rule n p)
       on (Ok x) p =
           let k = f.form x p in
           either_bool k.0
           (λ e. formed x p (k.1.yes e))
-          (λ e. count_of a (without_slip (Found.Refused 26)) (f.other_form x p (k.1.no e)) (omega arith))
+          (λ e. refused_few a 26 (f.other_form x p (k.1.no e)))
 
 -- ── its text ──
 -- the runs of the slip of these numbers

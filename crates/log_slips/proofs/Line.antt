@@ -22,11 +22,10 @@ use Rattle.steps.specs.Steps.{TakesEvent}
 use Rattle.reading.proofs.Settled.{TakenStep, step_refused, step-taken}
 use Rattle.reading.proofs.StepLine.{steps_line}
 use Rattle.text_pieces.specs.Writing.{WritesFew}
-use Rattle.slips.specs.declared.Finding.{Finding}
-use Rattle.slips.specs.Answers.{FindsFirst}
+use Rattle.slips.specs.Answers.{Finding, FindsFirst}
 use Rattle.log_slips.specs.declared.Walk.{Walk}
 use Rattle.log_slips.specs.Walk.{found_text, Refuses, TakesLine}
-use Rattle.log_slips.proofs.Found.{valid_lines, found_few}
+use Rattle.log_slips.proofs.Found.{FewRuns, valid_lines, found_few}
 
 not_next : {C : Type 0} (b : Answer) (c : Refusal) (u : Trace) → b ≡ refused c → b ≡ next u → C
 not_next b c u p q = never (cc)
@@ -59,7 +58,7 @@ module _ (line : List ℕ) (r : Record) (s : Said) (said : s ≡ said_as (length
     pub lines_then : Valid r → a.state.lines.0 ≤ 999
     lines_then v = omega (arith, valid_lines a.state (valid_then v))
 
-    pub few-then : (file : List ℕ) (f : Finding) → Valid r → FindsFirst file a.state f → f.slip.count ≤ 4
+    pub few-then : (file : List ℕ) (f : Finding) → Valid r → FindsFirst file a.state f → FewRuns f
     few-then file f v k = found_few file a.state f k (valid_then v)
 
     pub takes-taken : (file : List ℕ) (w : Walk) (after : ℕ) (text : List ℕ) (f : Finding) (q : ℕ) (text' : List ℕ) → r ≡ w.state → FindsFirst file a.state f

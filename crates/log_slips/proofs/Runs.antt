@@ -12,10 +12,11 @@ use Rattle.text_pieces.specs.Writing.{Writes, WritesFew}
 use Rattle.text_pieces.proofs.Writing.{wrote_nothing, then, writes_same}
 use Rattle.slip_form.specs.declared.Slip.{Slip}
 use Rattle.slip_form.specs.Slips.{run_no, numbers, slip_runs}
-use Rattle.slips.specs.declared.Found.{Found}
-use Rattle.slips.specs.declared.Finding.{Finding}
+use Rattle.std.specs.Prelude.{Some, None, Ok, Err}
+use Rattle.refusals.specs.declared.Refusal.{Refusal}
+use Rattle.slips.specs.Answers.{Finding}
 use Rattle.log_slips.specs.Printed.{runs_text, slip_text}
-use Rattle.log_slips.specs.Walk.{if_first, found_text}
+use Rattle.log_slips.specs.Walk.{found_text}
 
 -- one number more
 numbers_next : (k : ℕ) (rs : List RunNo) → numbers (suc k) rs ≡ numbers k rs ++ ((get_or rs k (run_no 0)).0 ∷ [])
@@ -74,16 +75,16 @@ slip_written slip n text text₁ text₂ text₃ p q r s a b c =
 
 -- ── what is found ──
 module _ (a : Finding) (n : ℕ) (text : List ℕ) (p : ℕ) where
-  pub first_written : a.found ≡ Found.First → (text' : List ℕ) (q : ℕ) → WritesFew 20 (slip_text n (slip_runs a.slip)) text p text' q
+  pub first_written : (x : Slip) → a ≡ Ok (Some x) → (text' : List ℕ) (q : ℕ) → WritesFew 20 (slip_text n (slip_runs x)) text p text' q
       → WritesFew 20 (found_text n a) text p text' q
-  first_written e text' q w =
-      record { writes = writes_same (sym (ap (λ (f : Found). if_first f (slip_text n (slip_runs a.slip))) e)) w.writes; few = w.few }
+  first_written x e text' q w =
+      record { writes = writes_same (sym (ap (found_text n) e)) w.writes; few = w.few }
 
-  nothing : if_first a.found (slip_text n (slip_runs a.slip)) ≡ [] → p + 20 ≤ length text → WritesFew 20 (found_text n a) text p text p
+  nothing : found_text n a ≡ [] → p + 20 ≤ length text → WritesFew 20 (found_text n a) text p text p
   nothing e h = record { writes = writes_same (sym e) (wrote_nothing text p (omega arith)); few = omega arith }
 
-  pub nothing_written : a.found ≡ Found.Nothing → p + 20 ≤ length text → WritesFew 20 (found_text n a) text p text p
-  nothing_written e = nothing (ap (λ (f : Found). if_first f (slip_text n (slip_runs a.slip))) e)
+  pub nothing_written : a ≡ Ok None → p + 20 ≤ length text → WritesFew 20 (found_text n a) text p text p
+  nothing_written e = nothing (ap (found_text n) e)
 
-  pub refused_written : (c : ℕ) → a.found ≡ Found.Refused c → p + 20 ≤ length text → WritesFew 20 (found_text n a) text p text p
-  refused_written c e = nothing (ap (λ (f : Found). if_first f (slip_text n (slip_runs a.slip))) e)
+  pub refused_written : (c : Refusal) → a ≡ Err c → p + 20 ≤ length text → WritesFew 20 (found_text n a) text p text p
+  refused_written c e = nothing (ap (found_text n) e)

@@ -22,9 +22,12 @@ use Rattle.text_pieces.specs.Pieces.{refused_text}
 use Rattle.text_pieces.specs.Writing.{WritesFew}
 use Rattle.slip_form.specs.Form.{some_of}
 use Rattle.slip_form.specs.Slips.{unbound}
-use Rattle.slips.specs.declared.Found.{Found}
-use Rattle.slips.specs.declared.Finding.{Finding}
-use Rattle.slips.specs.Answers.{found_in, FindsFirst}
+use Rattle.std.specs.Prelude.{Option, Ok, Err}
+use Rattle.refusals.specs.Refusal.{number}
+use Rattle.refusals.specs.declared.Refusal.{Refusal}
+use Rattle.refusals.proofs.Answers.{refused_number, refused_ok}
+use Rattle.slip_form.specs.declared.Slip.{Slip}
+use Rattle.slips.specs.Answers.{Finding, found_in, FindsFirst}
 use Rattle.log_slips.specs.declared.Walk.{Walk}
 use Rattle.log_slips.specs.Printed.{Printed}
 use Rattle.log_slips.specs.Walk.{left_text, refused_room, Walked, Steps, ShowsLines}
@@ -71,61 +74,42 @@ module _ (file log : List ℕ) (w : Walk) (text : List ℕ) (k : Walked file log
       ∙ (ap (λ (b : Bool). take w.size text ++ left_text b (formula_of file x) f k.trace (lines_of (drop w.place log))) (sym off) ∙ k.shown x p f)
 
 -- ── the rule ──
-found_not_refused : {C : Type 0} (t : Trace) (vs : List ℕ) (g : Formula) (c : ℕ) → (found_in t vs g).found ≡ Found.Refused c → C
+found_not_refused : {C : Type 0} (t : Trace) (vs : List ℕ) (g : Formula) (a : Finding) (c : Refusal) → a ≡ found_in t vs g → a ≡ Err c → C
 unfolding found_in
-found_not_refused t vs g c e =
+found_not_refused t vs g a c p e =
     either_bool (eval (model_of t) unbound (some_of vs g))
-    (λ b. let h : Found.First ≡ Found.Refused c = simp b at e in never (cc))
-    (λ b. let h : Found.Nothing ≡ Found.Refused c = simp b at e in never (cc))
+    (λ b. let h = simp b at p in never (cc))
+    (λ b. let h = simp b at p in never (cc))
 
 pub counted : (n : ℕ) (text : List ℕ) → n ≤ length text → IsPrefixLen n text
 counted n text h = (h, sym (length-take-le n text h))
 
 module _ (file log : List ℕ) (r : Record) (none : r ≡ record_of no_trace) (a : Finding) (f : FindsFirst file r a) where
-  found_of : (b : Finding) → a ≡ b → a.found ≡ b.found
-  found_of b e = ap (λ (x : Finding). x.found) e
-
   -- the finder refuses: the rule is refused with this number, or has another form
-  module _ (c : ℕ) (e : a.found ≡ Found.Refused c) (text text' : List ℕ) (n : ℕ) (w : WritesFew 9 (refused_text 0 c) text 0 text' n) where
-    number : (d : ℕ) → a.found ≡ Found.Refused d → c ≡ d
-    number d g = let h : Found.Refused c ≡ Found.Refused d = sym e ∙ g in cc
-
+  module _ (e : Refusal) (is : a ≡ Err e) (text text' : List ℕ) (n : ℕ) (w : WritesFew 9 (refused_text 0 (number e)) text 0 text' n) where
     pub shows_refused : 5140 ≤ length text → Printed file log text' n
     shows_refused h =
-        let said : take n text' ≡ refused_text 0 c = wrote_take _ _ _ _ _ w.writes in
+        let said : take n text' ≡ refused_text 0 (number e) = wrote_take _ _ _ _ _ w.writes in
         record {
           counts = counted n text' (omega (arith, wrote_length _ _ _ _ _ w.writes (omega (arith, w.few)), w.few));
           shows = record {
-            refused = λ d p. said ∙ ap (refused_text 0) (number _ (found_of _ (f.rule d p)));
-            other_form = λ x p o. said ∙ ap (refused_text 0) (number 26 (found_of _ (f.other_form x p o)));
+            refused = λ d p. said ∙ ap (refused_text 0) (sym (refused_number a (number d) e is (f.rule d p)));
+            other_form = λ x p o. said ∙ ap (refused_text 0) (sym (refused_number a 26 e is (f.other_form x p o)));
             slips =
                 λ x p s.
-                found_not_refused no_trace s.variables s.part c
-                (sym (found_of _ (f.known x p s [] no_trace no_bytes none).answer) ∙ e);
+                found_not_refused no_trace s.variables s.part a e (f.known x p s [] no_trace no_bytes none).answer is;
           };
         }
 
   -- it does not refuse: the rule has slips
-  module _ (m : (c : ℕ) → a.found ≡ Found.Refused c → ⊥) (text : List ℕ) (n : ℕ) (h : n ≤ length text) (s : ShowsLines file log (take n text)) where
-    shows_lines : Printed file log text n
+  module _ (o : Option Slip) (is : a ≡ Ok o) (text : List ℕ) (n : ℕ) (h : n ≤ length text) (s : ShowsLines file log (take n text)) where
+    pub shows_lines : Printed file log text n
     shows_lines =
         record {
           counts = counted n text h;
           shows = record {
-            refused = λ d p. absurd (m _ (found_of _ (f.rule d p)));
-            other_form = λ x p o. absurd (m 26 (found_of _ (f.other_form x p o)));
+            refused = λ d p. refused_ok a (number d) o is (f.rule d p);
+            other_form = λ x p q. refused_ok a 26 o is (f.other_form x p q);
             slips = s;
           };
         }
-
-  first_taken : a.found ≡ Found.First → (c : ℕ) → a.found ≡ Found.Refused c → ⊥
-  first_taken e c g = let h : Found.First ≡ Found.Refused c = sym e ∙ g in never (cc)
-
-  nothing-taken : a.found ≡ Found.Nothing → (c : ℕ) → a.found ≡ Found.Refused c → ⊥
-  nothing-taken e c g = let h : Found.Nothing ≡ Found.Refused c = sym e ∙ g in never (cc)
-
-  pub shows_first : a.found ≡ Found.First → (text : List ℕ) (n : ℕ) → n ≤ length text → ShowsLines file log (take n text) → Printed file log text n
-  shows_first e text n h s = shows_lines (first_taken e) text n h s
-
-  pub shows_nothing : a.found ≡ Found.Nothing → (text : List ℕ) (n : ℕ) → n ≤ length text → ShowsLines file log (take n text) → Printed file log text n
-  shows_nothing e text n h s = shows_lines (nothing-taken e) text n h s

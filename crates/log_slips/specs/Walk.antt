@@ -6,16 +6,14 @@ use Rattle.lines.specs.Log.{lines_of}
 use Rattle.trace.specs.Trace.{Trace, no_trace, next, refused, step, Accepted}
 use Rattle.trace.specs.Record.{record_of}
 use Rattle.rules.specs.declared.Rule.{Rule}
-use Rattle.std.specs.Prelude.{Ok}
+use Rattle.std.specs.Prelude.{Some, None, Ok, Err}
 use Rattle.rules.specs.Rules.{rule_of, formula_of}
 use Rattle.rules.specs.Formula.{Formula}
 use Rattle.text_pieces.specs.Pieces.{refused_text}
 use Rattle.text_pieces.specs.Writing.{WritesFew}
 use Rattle.slip_form.specs.Form.{SlipForm}
 use Rattle.slip_form.specs.Slips.{slip_runs}
-use Rattle.slips.specs.declared.Found.{Found}
-use Rattle.slips.specs.declared.Finding.{Finding}
-use Rattle.slips.specs.Answers.{FindsFirst}
+use Rattle.slips.specs.Answers.{Finding, FindsFirst}
 use Rattle.log_slips.specs.declared.Walk.{Walk}
 use Rattle.log_slips.specs.Printed.{slip_text, slips_from}
 
@@ -28,13 +26,10 @@ abbrev pub text_size : ℕ
 text_size = 5140
 
 -- what is written of an answer of the finder: the line of a slip, or nothing where there is none
-abbrev pub if_first : Found → List ℕ → List ℕ
-if_first Found.First s = s
-if_first Found.Nothing s = []
-if_first (Found.Refused c) s = []
-
 abbrev pub found_text : ℕ → Finding → List ℕ
-found_text n a = if_first a.found (slip_text n (slip_runs a.slip))
+found_text n (Ok (Some x)) = slip_text n (slip_runs x)
+found_text n (Ok None) = []
+found_text n (Err e) = []
 
 -- the text of the lines that are left, if lines are read on
 abbrev pub left_text : Bool → (f : Formula) → SlipForm f → Trace → List (List ℕ) → List ℕ

@@ -5,7 +5,7 @@
 // nothing is printed. Arguments are ignored. What a slip is, and which is the first, is the work of the crate `slips`.
 #![tactic(auto)]
 
-ghost use Rattle.std.specs.Prelude.{◌+◌, ◌≤◌, ◌≡◌, true, length, take};
+ghost use Rattle.std.specs.Prelude.{◌+◌, ◌≤◌, ◌≡◌, true, IfOk, IfSome, length, take};
 ghost use Rattle.input.specs.Filled.{Fills};
 ghost use Rattle.rules.specs.Limits.{max_nested};
 ghost use Rattle.lists.specs.Limits.{max_lines};
@@ -17,7 +17,6 @@ ghost use Rattle.log_slips.specs.Walk.{found_text, text_size, Walked, Refuses, S
 
 use input::Streams;
 use slip_form::Slip;
-use slips::{Finding, Found};
 use std::io;
 use std::rt::Files;
 use refusals::Refusal;
@@ -85,16 +84,14 @@ fn put_slip(text: &mut [u8], at: usize, n: u32, slip: Slip) -> usize
 }
 
 // The line of what is found after line n: nothing where no slip is.
-fn put_found(text: &mut [u8], at: usize, n: u32, f: Finding) -> usize
-    requires { (at + 20 ≤ length text.old) × (n ≤ 999) × (f.slip.count ≤ max_nested) }
-    ensures { WritesFew 20 (found_text n f) text.old at text.new result }
+fn put_found(text: &mut [u8], at: usize, n: u32, found: Result<Option<Slip>, Refusal>) -> usize
+    requires { (at + 20 ≤ length text.old) × (n ≤ 999) × IfOk found (λ o. IfSome o (λ x. x.count ≤ max_nested)) }
+    ensures { WritesFew 20 (found_text n found) text.old at text.new result }
 {
-    let found = f.found;
-    let slip = f.slip;
     match found {
-        Found::First => return put_slip(text, at, n, slip),
-        Found::Nothing => return at,
-        Found::Refused(_) => return at,
+        Ok(Some(slip)) => put_slip(text, at, n, slip),
+        Ok(None) => at,
+        Err(_) => at,
     }
 }
 
@@ -192,12 +189,9 @@ fn make_text(file: &[u8], log: &[u8], text: &mut [u8]) -> usize
     ensures { Printed file.now log.now text.new result }
 {
     let none = trace::no_lines();
-    let f = slips::first_slip(file, none);
-    let found = f.found;
-    match found {
-        Found::Refused(c) => return text_pieces::put_refused(text, 0, 0, c as u32),
-        Found::First => return put_lines(file, log, text),
-        Found::Nothing => return put_lines(file, log, text),
+    match slips::first_slip(file, none) {
+        Ok(_) => put_lines(file, log, text),
+        Err(e) => text_pieces::put_refused(text, 0, 0, u32::from(u8::from(e))),
     }
 }
 

@@ -10,9 +10,7 @@ use Rattle.record_bytes.specs.Form.{record_size, record_from}
 use Rattle.record_bytes.specs.Calls.{Unpacks}
 use Rattle.answer_numbers.specs.Numbers.{refusal}
 use Rattle.slip_form.specs.declared.Slip.{Slip}
-use Rattle.slips.specs.declared.Finding.{Finding}
-use Rattle.slips.specs.declared.Passing.{Passing}
-use Rattle.slips.specs.Answers.{FindsFirst, ReadsSlip}
+use Rattle.slips.specs.Answers.{Finding, Passing, FindsFirst, ReadsSlip}
 use Rattle.slip_bytes.specs.InBytes.{slip_from, found_numbered, passing_number}
 use Rattle.slip_bytes.proofs.Few.{zero_none, no_slip_left, bytes_back, bytes_counted}
 use Rattle.scene_log.specs.Slips.{FindsNumber, PassesNumber}

@@ -5,10 +5,8 @@ use Rattle.rules.specs.Limits.{max_nested}
 use Rattle.record_bytes.specs.Form.{record_size, record_from}
 use Rattle.answer_numbers.specs.Numbers.{refusal}
 use Rattle.slip_form.specs.Slips.{slip_runs}
-use Rattle.slips.specs.declared.Found.TheVariants as Found
-use Rattle.slips.specs.declared.Finding.{Finding}
-use Rattle.slips.specs.declared.Passing.{Passing}
-use Rattle.slips.specs.Answers.{FindsFirst, ReadsSlip}
+use Rattle.slip_form.specs.declared.Slip.{Slip}
+use Rattle.slips.specs.Answers.{Finding, Passing, with_slip, without_slip, FindsFirst, ReadsSlip}
 use Rattle.slip_bytes.specs.InBytes.{slip_from, found_numbered, passing_number}
 
 -- ── the first slip ──
@@ -18,8 +16,8 @@ pub record FindsBytes (file b y : List ℕ) (n : ℕ) (y' : List ℕ) : Type 0 w
   pub found : Finding
   pub finds : FindsFirst file (record_from b) found
   pub answer : ◌≡◌ {A = ℕ × List ℕ} (n, y') (found_numbered found y)
-  pub none : (n ≡ 0) ↔ (found.found ≡ Found.Nothing)
-  pub left : (found.found ≡ Found.First → ⊥) → y' ≡ y
+  pub none : (n ≡ 0) ↔ (found ≡ without_slip)
+  pub left : ((x : Slip) → found ≡ with_slip x → ⊥) → y' ≡ y
 
 -- the answer and the bytes of the slip, for every input: 20 comes first
 pub record FindsNumber (file b y : List ℕ) (n : ℕ) (y' : List ℕ) : Type 0 where

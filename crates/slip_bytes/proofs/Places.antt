@@ -12,9 +12,7 @@ use Rattle.trace.specs.declared.RunNo.{RunNo}
 use Rattle.slip_form.specs.declared.Slip.{Slip}
 use Rattle.slip_form.specs.Slips.{run_no, numbers, slip_runs}
 use Rattle.slip_search.proofs.Places.{length-numbers, map_last}
-use Rattle.slips.specs.declared.Found.{Found}
-use Rattle.slips.specs.declared.Passing.{Passing}
-use Rattle.slip_bytes.specs.InBytes.{slip_from, runs_in, found_number, passing_number}
+use Rattle.slip_bytes.specs.InBytes.{slip_from, runs_in}
 
 -- ── runs into bytes ──
 put_run : (i : ℕ) (l : List RunNo) (b : List ℕ) → i < length b → set (numbers i l ++ drop i b) i (get_or l i (run_no 0)).0 ≡ numbers (suc i) l ++ drop (suc i) b
@@ -62,10 +60,3 @@ slip_at c l = record { count = c; run = l }
 
 pub slip_is : (b : List ℕ) (run : List RunNo) → run ≡ placed 4 b → ◌≡◌ {A = Slip} (record { count = length b; run = run }) (slip_from b)
 slip_is b run e = ap (slip_at (length b)) e
-
--- ── refusals ──
-pub refused_found : (a : Found) (x : Slip) (n : ℕ) → a ≡ Found.Refused n → n * 65536 ≡ found_number a x
-refused_found a x n e = sym (ap (λ (b : Found). found_number b x) e)
-
-pub refused_passing : (a : Passing) (n : ℕ) → a ≡ Passing.Refused n → n * 65536 ≡ passing_number a
-refused_passing a n e = sym (ap passing_number e)

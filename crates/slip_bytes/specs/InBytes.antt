@@ -5,9 +5,9 @@ use Rattle.lists.specs.Lists.{pad}
 use Rattle.rules.specs.Limits.{max_nested}
 use Rattle.slip_form.specs.declared.Slip.{Slip}
 use Rattle.slip_form.specs.Slips.{run_no, slip_runs}
-use Rattle.slips.specs.declared.Found.{Found}
-use Rattle.slips.specs.declared.Finding.{Finding}
-use Rattle.slips.specs.declared.Passing.{Passing}
+use Rattle.std.specs.Prelude.{Some, None, Ok, Err, true, false}
+use Rattle.refusals.specs.Refusal.{number}
+use Rattle.slips.specs.Answers.{Finding, Passing}
 use Rattle.answer_numbers.specs.Numbers.{refusal}
 
 -- the slip that bytes are: as many runs as there are bytes, and no slip has more than four places
@@ -18,18 +18,14 @@ slip_from b = record { count = length b; run = pad (run_no 0) max_nested (map ru
 abbrev pub runs_in : List ℕ → List ℕ → List ℕ
 runs_in ks b = ks ++ drop (length ks) b
 
--- how many runs the first slip has; 0 for none
-abbrev pub found_number : Found → Slip → ℕ
-found_number Found.First x = x.count
-found_number Found.Nothing x = 0
-found_number (Found.Refused n) x = refusal n
-
--- the number of an answer, and the bytes that a slip is put into
+-- the number of an answer, and the bytes that a slip is put into: how many runs the first slip has; 0 for none
 abbrev pub found_numbered : Finding → List ℕ → ℕ × List ℕ
-found_numbered a b = (found_number a.found a.slip, runs_in (slip_runs a.slip) b)
+found_numbered (Ok (Some x)) b = (x.count, runs_in (slip_runs x) b)
+found_numbered (Ok None) b = (0, b)
+found_numbered (Err e) b = (refusal (number e), b)
 
 -- 1 it passes, 0 it does not
 abbrev pub passing_number : Passing → ℕ
-passing_number Passing.Passes = 1
-passing_number Passing.DoesNot = 0
-passing_number (Passing.Refused n) = refusal n
+passing_number (Ok true) = 1
+passing_number (Ok false) = 0
+passing_number (Err e) = refusal (number e)

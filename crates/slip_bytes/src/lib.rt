@@ -4,15 +4,17 @@
 // number of an answer.
 #![tactic(auto)]
 
-ghost use Rattle.std.specs.Prelude.{◌≡◌, ◌≤◌, length};
+ghost use Rattle.std.specs.Prelude.{◌≡◌, ◌≤◌, IfOk, IfSome, length};
 ghost use Rattle.rules.specs.Limits.{max_nested};
 ghost use Rattle.slip_form.specs.Slips.{slip_runs};
-ghost use Rattle.slip_bytes.specs.InBytes.{slip_from, runs_in, found_number, found_numbered, passing_number};
+ghost use Rattle.refusals.specs.Refusal.{number};
+ghost use Rattle.answer_numbers.specs.Numbers.{refusal};
+ghost use Rattle.slip_bytes.specs.InBytes.{slip_from, runs_in, found_numbered, passing_number};
 
 use answer_numbers::REFUSAL_STEP;
+use refusals::Refusal;
 use rule_file::MAX_NESTED;
 use slip_form::Slip;
-use slips::{Finding, Found, Passing};
 use trace::RunNo;
 
 // The slip that bytes are: a run a byte.
@@ -37,36 +39,34 @@ fn put_runs(x: Slip, bytes: &mut [u8])
     }
 }
 
-// How many runs the slip of an answer has, 0 for none, or the refusal.
-fn found_number(found: Found, x: Slip) -> u32
-    requires { x.count ≤ max_nested }
-    ensures { result ≡ found_number found x }
+// How many runs the slip that is found has, with its runs put into the first bytes; 0 for none, or the refusal.
+pub fn keep_slip(a: Result<Option<Slip>, Refusal>, bytes: &mut [u8]) -> u32
+    requires { IfOk a (λ o. IfSome o (λ x. x.count ≤ max_nested)) × (max_nested ≤ length bytes.old) }
+    ensures { (result, bytes.new) ≡ found_numbered a bytes.old }
 {
-    match found {
-        Found::First => return x.count as u32,
-        Found::Nothing => return 0,
-        Found::Refused(n) => return (n as u32) * REFUSAL_STEP,
+    match a {
+        Ok(Some(slip)) => {
+            put_runs(slip, bytes);
+            slip.count as u32
+        }
+        Ok(None) => 0,
+        Err(e) => refusal_number(e),
     }
 }
 
-// The same, with the runs of the slip put into the first bytes.
-pub fn keep_slip(a: Finding, bytes: &mut [u8]) -> u32
-    requires { (a.slip.count ≤ max_nested) × (max_nested ≤ length bytes.old) }
-    ensures { (result, bytes.new) ≡ found_numbered a bytes.old }
+// The number of a refusal.
+fn refusal_number(e: Refusal) -> u32
+    ensures { result ≡ refusal (number e) }
 {
-    let found = a.found;
-    let slip = a.slip;
-    put_runs(slip, bytes);
-    found_number(found, slip)
+    u32::from(u8::from(e)) * REFUSAL_STEP
 }
 
 // 1 a slip passes, 0 it does not, or the refusal.
-pub fn passing_number(a: Passing) -> u32
+pub fn passing_number(a: Result<bool, Refusal>) -> u32
     ensures { result ≡ passing_number a }
 {
     match a {
-        Passing::Passes => return 1,
-        Passing::DoesNot => return 0,
-        Passing::Refused(n) => return (n as u32) * REFUSAL_STEP,
+        Ok(passes) => u32::from(passes),
+        Err(e) => refusal_number(e),
     }
 }

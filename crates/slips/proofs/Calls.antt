@@ -5,8 +5,6 @@ use mathlib.Core.Bool.{Bool, true, false}
 use mathlib.Core.List.{List}
 use native.Mathlib.Omega.{arith}
 use Rattle.std.proofs.Common.{Option, None}
-use lib.ListN.{replicate}
-use Rattle.lists.specs.Lists.{pad}
 use Rattle.lists.specs.Tells.{Tells}
 use Rattle.trace.specs.declared.Record.{Record}
 use Rattle.trace.specs.Trace.{Trace, Accepted}
@@ -19,26 +17,18 @@ use Rattle.rules.specs.Formula.{Formula}
 use Rattle.rules.specs.Rules.{rule_of, formula_of, ReadsRule}
 use Rattle.rules.proofs.Parts.{not_ok, err_inj}
 use Rattle.slip_form.specs.Form.{SlipForm}
-use Rattle.slip_form.specs.Slips.{run_no}
 use Rattle.slip_form.specs.Chain.{slip_form?, ChainAt, TopOf}
 use Rattle.slip_form.proofs.Forms.{form_tells}
-use Rattle.slips.specs.declared.Found.{Found}
-use Rattle.slips.specs.declared.Finding.{Finding}
-use Rattle.slips.specs.Answers.{without_slip, SlipCall}
-
--- an answer without a slip, by its places
-pub no_slip : (a : Found) → ◌≡◌ {A = Finding} (record { found = a; slip = record { count = 0; run = replicate 4 (run_no 0) } }) (without_slip a)
-unfolding pad
-no_slip a = refl
+use Rattle.slips.specs.Answers.{SlipCall}
 
 one_rule : (o s : Result Rule Refusal) (x y : Rule) → o ≡ s → o ≡ Ok x → s ≡ Ok y → y ≡ x
 one_rule o s x y p q r = cc
 
 no_rule : {C : Type 0} (o s : Result Rule Refusal) (x : Rule) (n : Refusal) → o ≡ s → o ≡ Ok x → s ≡ Err n → C
-no_rule o s x n p q r = not_ok n x (sym r ∙ sym p ∙ q)
+no_rule o s x n p q r = cc
 
 one_number : (o s : Result Rule Refusal) (m n : Refusal) → o ≡ s → o ≡ Err m → s ≡ Err n → number m ≡ number n
-one_number o s m n p q r = ap number (err_inj m n (sym q ∙ p ∙ r))
+one_number o s m n p q r = let e : m ≡ n = cc in ap number e
 
 module _ (file : List ℕ) (r : Record) (refuses : ℕ → Type 0) (says : (t : Trace) (f : Formula) → SlipForm f → Type 0)
     (o : Result Rule Refusal) (reads : ReadsRule file o) where

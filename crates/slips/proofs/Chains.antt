@@ -35,10 +35,10 @@ use Rattle.slip_form.proofs.Descent.{top_low}
 use Rattle.slip_search.specs.First.{First, true_for, of_runs, of_ranks, AsksOf, Seeks, Tidy, Whole}
 use Rattle.slip_search.proofs.Places.{length-numbers}
 use Rattle.slips.specs.declared.Prepared.{Prepared}
-use Rattle.slips.specs.declared.Found.TheVariants as Found
-use Rattle.slips.specs.declared.Passing.{Passing}
+use Rattle.std.specs.Prelude.{Ok, Err}
+use Rattle.refusals.specs.declared.Refusal.TheVariants.{NoFinishedRun}
 use Rattle.slips.specs.Answers.{without_slip, FindsIn, ReadsIn}
-use Rattle.slips.specs.Parts.{Ranked, PreparedFor, found_by, FindsOf, ReadsOf}
+use Rattle.slips.specs.Parts.{Ranked, PreparedFor, FindsOf, ReadsOf}
 use Rattle.slips.proofs.Ranked.{first_of_runs, truth_same, asks_of, true_of_runs, all_finished, all_ranked}
 use Rattle.slips.proofs.Meaning.{true_of_each}
 use Rattle.slips.proofs.Said.{found_in_lem, none_in, false_none, reads_fit, reads_not}
@@ -115,7 +115,7 @@ module _ (file : List ℕ) (x : Rule) (top : ℕ) (taken : Taken file x) (at : C
       fits_some ks w = some_run p.ranks p.runs ks (omega (arith, w.one_each, s.one)) (fits_ranked ks w.finished)
 
       -- with no run finished no slip passes
-      no_runs_lem : p.runs ≡ 0 → FindsIn u (formula_of file x) s (without_slip Found.Nothing)
+      no_runs_lem : p.runs ≡ 0 → FindsIn u (formula_of file x) s without_slip
       no_runs_lem z = none_in u (formula_of file x) s (λ ks w. let n = fits_some ks w.fits in omega arith)
 
       module _ (some : 1 ≤ p.runs) where
@@ -135,7 +135,7 @@ module _ (file : List ℕ) (x : Rule) (top : ℕ) (taken : Taken file x) (at : C
               subst (λ (n : ℕ). AsksOf p.table file p.ranks n (p.runs - 1) (rank_model u) → Seeks (of_ranks (rank_model u) p.ranks n (p.runs - 1)) (binding from_zero) (formula_at file x.nodes top) y)
               all_of.count (seeks (rank_model u)) asks
 
-          finds_by : (z : Option Slip) → y ≡ z → FindsIn u (formula_of file x) s (found_by z)
+          finds_by : (z : Option Slip) → y ≡ z → FindsIn u (formula_of file x) s (Ok z)
           finds_by (Some w) e =
               found_in_lem u (formula_of file x) s w (subst (λ (o : Option Slip). IfSome o Tidy) e tidy)
               (subst (λ (c : Formula). First (of_runs (model_of u)) unbound c (slip_runs w)) (chain_is s)
@@ -162,7 +162,7 @@ module _ (file : List ℕ) (x : Rule) (top : ℕ) (taken : Taken file x) (at : C
               ∙ (ap (λ (c : Formula). true_for (of_runs (model_of u)) unbound c (slip_runs y)) (chain_is s)
               ∙ true_of_each u s.variables (slip_runs y) unbound s.part one_each)))
 
-          reads_by : ReadsIn u (formula_of file x) s (slip_runs y) (cond b Passing.Passes Passing.DoesNot)
+          reads_by : ReadsIn u (formula_of file x) s (slip_runs y) (Ok b)
           reads_by =
               reads_fit u (formula_of file x) s (slip_runs y)
               (record { one_each = one_each; finished = all_finished log u acc all_of.order all_of.held p.ranks all_of.ranks (slip_runs y) whole_ranked })
@@ -170,7 +170,7 @@ module _ (file : List ℕ) (x : Rule) (top : ℕ) (taken : Taken file x) (at : C
 
       -- a slip that is not whole does not fit
       reads_none : (y : Slip) → (Whole y (height (formula_at file x.nodes top)) p.ranks p.runs → ⊥)
-          → ReadsIn u (formula_of file x) s (slip_runs y) (Passing.Refused 22)
+          → ReadsIn u (formula_of file x) s (slip_runs y) (Err NoFinishedRun)
       reads_none y n =
           reads_not u (formula_of file x) s (slip_runs y)
           (λ w. n (record {
@@ -186,23 +186,23 @@ module _ (file : List ℕ) (x : Rule) (top : ℕ) (taken : Taken file x) (at : C
     whole_byte y = subst (λ (n : ℕ). Whole y n p.ranks p.runs) (sym chain_byte)
 
     -- ── the answers ──
-    pub finds-nothing : p.runs ≡ 0 → FindsOf file x r (without_slip Found.Nothing)
+    pub finds-nothing : p.runs ≡ 0 → FindsOf file x r without_slip
     finds-nothing z s log u acc e = no_runs_lem log u acc e s z
 
     pub finds_sought : (y : Option Slip) → (p.runs ≡ 0 → ⊥) → IfSome y Tidy
         → ((M : Model) → AsksOf p.table file p.ranks p.runs (p.runs - 1) M
         → Seeks (of_ranks M p.ranks p.runs (p.runs - 1)) (binding from_zero) (formula_at file x.nodes top) y)
-        → FindsOf file x r (found_by y)
+        → FindsOf file x r (Ok y)
     finds_sought y some tidy seeks s log u acc e = finds_by log u acc e s (omega (arith, some)) y tidy seeks y refl
 
     pub whole_some : (y : Slip) → Whole y (height (formula_at file x.nodes top)) p.ranks p.runs → 1 ≤ p.runs
     whole_some y w = some_run p.ranks p.runs (slip_runs y) (omega (arith, length-numbers y.count y.run, w.count, chain_some)) w.ranked
 
-    pub reads_refused : (y : Slip) → (Whole y (get_or p.heights top 0) p.ranks p.runs → ⊥) → ReadsOf file x r y (Passing.Refused 22)
+    pub reads_refused : (y : Slip) → (Whole y (get_or p.heights top 0) p.ranks p.runs → ⊥) → ReadsOf file x r y (Err NoFinishedRun)
     reads_refused y n s log u acc e = reads_none log u acc e s y (λ w. n (whole_byte y w))
 
     pub reads_true : (y : Slip) (b : Bool) → Whole y (height (formula_at file x.nodes top)) p.ranks p.runs
         → ((M : Model) → RowsOf p.table file p.runs M
         → b ≡ true_for (of_ranks M p.ranks p.runs (p.runs - 1)) (binding from_zero) (formula_at file x.nodes top) (slip_runs y))
-        → ReadsOf file x r y (cond b Passing.Passes Passing.DoesNot)
+        → ReadsOf file x r y (Ok b)
     reads_true y b w is s log u acc e = reads_by log u acc e s (whole_some y w) y w b is

@@ -23,20 +23,19 @@ use Rattle.slip_form.specs.Slips.{bind_each, unbound, Each, Fits, Passes, slip_r
 use Rattle.slip_form.specs.Chain.{some?}
 use Rattle.slip_form.proofs.Forms.{without_some}
 use Rattle.slip_search.specs.First.{First, of_runs, Tidy}
-use Rattle.slips.specs.declared.Found.TheVariants as Found
-use Rattle.slips.specs.declared.Finding.{Finding}
-use Rattle.slips.specs.declared.Passing.{Passing}
-use Rattle.slips.specs.Answers.{with_slip, without_slip, first_runs, found_in, fits?, passing_in, FindsIn, ReadsIn}
+use Rattle.std.specs.Prelude.{Option, Some, None, Result, Ok, Err}
+use Rattle.refusals.specs.declared.Refusal.{Refusal}
+use Rattle.refusals.specs.declared.Refusal.TheVariants.{NoFinishedRun}
+use Rattle.refusals.specs.Refusal.{RefusedWith}
+use Rattle.refusals.proofs.Answers.{refused_with, refused_ok}
+use Rattle.slips.specs.Answers.{Passing, with_slip, without_slip, first_runs, found_in, fits?, passing_in, FindsIn, ReadsIn}
 use Rattle.slips.proofs.Meaning.{PassesFrom, either_before, holds_of, may_of, run_of, passes_satisfies, satisfies_passes, first_passes, first_earliest, first_is}
 
 same_slip : (x y : Slip) → with_slip x ≡ with_slip y → x ≡ y
-same_slip x y e = ap (λ (a : Finding). a.slip) e
+same_slip x y e = cc
 
-not_nothing : (x : Slip) → with_slip x ≡ without_slip Found.Nothing → ⊥
-not_nothing x e =
-    let d : Found.First ≡ Found.Nothing = ap (λ (a : Finding). a.found) e in
-    let z : ◌≡◌ {A = ℕ} 0 1 = cc d in
-    omega arith
+not_nothing : (x : Slip) → with_slip x ≡ without_slip → ⊥
+not_nothing x e = cc
 
 tell_all : (P : ℕ → Type 0) (p : ℕ → Bool) → ((k : ℕ) → Tells (p k) (P k)) → (ks : List ℕ) → Tells (all? p ks) (Each P ks)
 unfolding Each
@@ -84,12 +83,12 @@ module _ (t : Trace) (f : Formula) (s : SlipForm f) where
       record {
         answer =
             ap with_slip is
-            ∙ sym (ap (λ (b : Bool). cond b (with_slip (slip_of (first_runs (model_of t) unbound s.variables s.part))) (without_slip Found.Nothing)) true-so);
+            ∙ sym (ap (λ (b : Bool). cond b (with_slip (slip_of (first_runs (model_of t) unbound s.variables s.part))) without_slip) true-so);
         slip = λ y. (λ e. subst (FirstSlip t f s) (same_slip x y e) first, λ p. ap with_slip (first_one x y first p));
         none = (λ e. absurd (not_nothing x e), λ n. absurd (n (slip_runs x) passes));
       }
 
-  pub none_in : ((ks : List ℕ) → Passes t f s ks → ⊥) → FindsIn t f s (without_slip Found.Nothing)
+  pub none_in : ((ks : List ℕ) → Passes t f s ks → ⊥) → FindsIn t f s without_slip
   unfolding found_in
   none_in n =
       let false-so : eval (model_of t) unbound (some_of s.variables s.part) ≡ false =
@@ -98,12 +97,12 @@ module _ (t : Trace) (f : Formula) (s : SlipForm f) where
       (λ e. e)
       in
       record {
-        answer = sym (ap (λ (b : Bool). cond b (with_slip (slip_of (first_runs (model_of t) unbound s.variables s.part))) (without_slip Found.Nothing)) false-so);
+        answer = sym (ap (λ (b : Bool). cond b (with_slip (slip_of (first_runs (model_of t) unbound s.variables s.part))) without_slip) false-so);
         slip = λ y. (λ e. absurd (not_nothing y (sym e)), λ p. absurd (n (slip_runs y) p.passes));
         none = (λ _. n, λ _. refl);
       }
 
-  pub false_none : eval (model_of t) unbound (some_of s.variables s.part) ≡ false → FindsIn t f s (without_slip Found.Nothing)
+  pub false_none : eval (model_of t) unbound (some_of s.variables s.part) ≡ false → FindsIn t f s without_slip
   false_none e = none_in (λ ks p. (eval_decides t unbound (some_of s.variables s.part)).no e (some_passes.1 (ks, p)))
 
   -- ── the reader ──
@@ -128,7 +127,7 @@ module _ (t : Trace) (f : Formula) (s : SlipForm f) where
 
   module _ (ks : List ℕ) where
     abbrev answered : Bool → Bool → Passing
-    answered fits b = cond fits (cond b Passing.Passes Passing.DoesNot) (Passing.Refused 22)
+    answered fits b = cond fits (Ok b) (Err NoFinishedRun)
 
     read_in : (fits b : Bool) → Tells fits (Fits t f s ks) → Tells b (Satisfies t (bind_each unbound s.variables ks) s.part)
         → answered fits b ≡ passing_in t s.variables s.part ks → ReadsIn t f s ks (answered fits b)
@@ -136,22 +135,22 @@ module _ (t : Trace) (f : Formula) (s : SlipForm f) where
         record {
           answer = e;
           passes = (λ _. record { fits = w.yes refl; true_of = h.yes refl }, λ _. refl);
-          does_not = (λ z. absurd (let q : ◌≡◌ {A = ℕ} 0 1 = cc in omega arith), λ z. absurd (z.1 (h.yes refl)));
-          refused = (λ z. absurd (let q : ◌≡◌ {A = ℕ} 0 1 = cc in omega arith), λ n. absurd (n (w.yes refl)));
+          does_not = (λ z. cc, λ z. absurd (z.1 (h.yes refl)));
+          refused = (λ z. refused_ok (answered true true) 22 true refl z, λ n. absurd (n (w.yes refl)));
         }
     read_in true false w h e =
         record {
           answer = e;
-          passes = (λ z. absurd (let q : ◌≡◌ {A = ℕ} 0 1 = cc in omega arith), λ p. absurd (h.no refl p.true_of));
+          passes = (λ z. cc, λ p. absurd (h.no refl p.true_of));
           does_not = (λ _. (w.yes refl, h.no refl), λ _. refl);
-          refused = (λ z. absurd (let q : ◌≡◌ {A = ℕ} 0 1 = cc in omega arith), λ n. absurd (n (w.yes refl)));
+          refused = (λ z. refused_ok (answered true false) 22 false refl z, λ n. absurd (n (w.yes refl)));
         }
     read_in false b w h e =
         record {
           answer = e;
-          passes = (λ z. absurd (let q : ◌≡◌ {A = ℕ} 0 1 = cc in omega arith), λ p. absurd (w.no refl p.fits));
-          does_not = (λ z. absurd (let q : ◌≡◌ {A = ℕ} 0 1 = cc in omega arith), λ z. absurd (w.no refl z.0));
-          refused = (λ _. w.no refl, λ _. refl);
+          passes = (λ z. cc, λ p. absurd (w.no refl p.fits));
+          does_not = (λ z. cc, λ z. absurd (w.no refl z.0));
+          refused = (λ _. w.no refl, λ _. refused_with (answered false b) 22 NoFinishedRun refl refl);
         }
 
     decides : Tells (eval (model_of t) (bind_each unbound s.variables ks) s.part) (Satisfies t (bind_each unbound s.variables ks) s.part)
@@ -162,18 +161,18 @@ module _ (t : Trace) (f : Formula) (s : SlipForm f) where
     whole_in = read_in (fits? t s.variables ks) (eval (model_of t) (bind_each unbound s.variables ks) s.part) (fits_tells ks) decides refl
 
     pub reads_fit : Fits t f s ks → (b : Bool) → b ≡ eval (model_of t) (bind_each unbound s.variables ks) s.part
-        → ReadsIn t f s ks (cond b Passing.Passes Passing.DoesNot)
+        → ReadsIn t f s ks (Ok b)
     unfolding passing_in
     reads_fit h b e =
-        let is : cond b Passing.Passes Passing.DoesNot ≡ passing_in t s.variables s.part ks =
-        ap (λ (c : Bool). cond c Passing.Passes Passing.DoesNot) e ∙ sym (ap (λ (c : Bool). answered c (eval (model_of t) (bind_each unbound s.variables ks) s.part)) (fit_true ks h))
+        let is : ◌≡◌ {A = Passing} (Ok b) (passing_in t s.variables s.part ks) =
+        ap (λ (c : Bool). answered true c) e ∙ sym (ap (λ (c : Bool). answered c (eval (model_of t) (bind_each unbound s.variables ks) s.part)) (fit_true ks h))
         in
         subst (ReadsIn t f s ks) (sym is) whole_in
 
-    pub reads_not : (Fits t f s ks → ⊥) → ReadsIn t f s ks (Passing.Refused 22)
+    pub reads_not : (Fits t f s ks → ⊥) → ReadsIn t f s ks (Err NoFinishedRun)
     unfolding passing_in
     reads_not h =
-        let is : Passing.Refused 22 ≡ passing_in t s.variables s.part ks =
+        let is : ◌≡◌ {A = Passing} (Err NoFinishedRun) (passing_in t s.variables s.part ks) =
         sym (ap (λ (c : Bool). answered c (eval (model_of t) (bind_each unbound s.variables ks) s.part)) (fit_false ks h))
         in
         subst (ReadsIn t f s ks) (sym is) whole_in

@@ -7,9 +7,10 @@ use Rattle.trace.specs.Trace.{Trace, Accepted}
 use Rattle.trace.specs.Record.{record_of, Valid}
 use Rattle.relations.specs.Runs.{finished?}
 use Rattle.rules.specs.declared.Rule.{Rule}
-use Rattle.std.specs.Prelude.{Ok, Err}
-use Rattle.refusals.specs.Refusal.{number}
+use Rattle.std.specs.Prelude.{Option, Some, None, Result, Ok, Err, true, false}
+use Rattle.refusals.specs.Refusal.{number, RefusedWith}
 use Rattle.refusals.specs.declared.Refusal.{Refusal}
+use Rattle.refusals.specs.declared.Refusal.TheVariants.{NoFinishedRun}
 use Rattle.rules.specs.Formula.{Formula}
 use Rattle.rules.specs.Rules.{rule_of, formula_of}
 use Rattle.logic.specs.Satisfies.{Binding, bind, Satisfies}
@@ -17,16 +18,20 @@ use Rattle.logic.specs.Model.{Model, eval, model_of}
 use Rattle.slip_form.specs.declared.Slip.{Slip}
 use Rattle.slip_form.specs.Form.{some_of, SlipForm}
 use Rattle.slip_form.specs.Slips.{bind_each, unbound, slip_runs, slip_of, Fits, Passes, FirstSlip}
-use Rattle.slips.specs.declared.Found.{Found}
-use Rattle.slips.specs.declared.Finding.{Finding}
-use Rattle.slips.specs.declared.Passing.{Passing}
 
--- the answer with a slip; without one it is the slip of no runs
+-- what finding a slip answers: the first that passes, or that none does
+abbrev pub Finding : Type 0
+Finding = Result (Option Slip) Refusal
+
+-- what reading one answers: whether it passes
+abbrev pub Passing : Type 0
+Passing = Result Bool Refusal
+
 abbrev pub with_slip : Slip → Finding
-with_slip x = record { found = Found.First; slip = x }
+with_slip x = Ok (Some x)
 
-abbrev pub without_slip : Found → Finding
-without_slip a = record { found = a; slip = slip_of [] }
+abbrev pub without_slip : Finding
+without_slip = Ok None
 
 -- ── the answers as they are computed ──
 -- the first number below n that passes; n where none does
@@ -45,7 +50,7 @@ unfoldable pub found_in : Trace → List ℕ → Formula → Finding
 found_in t vs g =
     cond (eval (model_of t) unbound (some_of vs g))
     (with_slip (slip_of (first_runs (model_of t) unbound vs g)))
-    (without_slip Found.Nothing)
+    without_slip
 
 unfoldable pub fits? : Trace → List ℕ → List ℕ → Bool
 fits? t vs ks = eqb (length ks) (length vs) && all? (λ k. ltb k (length t.runs) && finished? t k) ks
@@ -53,8 +58,8 @@ fits? t vs ks = eqb (length ks) (length vs) && all? (λ k. ltb k (length t.runs)
 unfoldable pub passing_in : Trace → List ℕ → Formula → List ℕ → Passing
 passing_in t vs g ks =
     cond (fits? t vs ks)
-    (cond (eval (model_of t) (bind_each unbound vs ks) g) Passing.Passes Passing.DoesNot)
-    (Passing.Refused 22)
+    (Ok (eval (model_of t) (bind_each unbound vs ks) g))
+    (Err NoFinishedRun)
 
 -- ── what an answer says ──
 -- of the finder, after the lines that t stands for: a slip exactly if it is the first, "or "none"" exactly if none
@@ -62,15 +67,15 @@ passing_in t vs g ks =
 pub record FindsIn (t : Trace) (f : Formula) (s : SlipForm f) (a : Finding) : Type 0 where
   pub answer : a ≡ found_in t s.variables s.part
   pub slip : (x : Slip) → (a ≡ with_slip x) ↔ FirstSlip t f s x
-  pub none : (a ≡ without_slip Found.Nothing) ↔ ((ks : List ℕ) → Passes t f s ks → ⊥)
+  pub none : (a ≡ without_slip) ↔ ((ks : List ℕ) → Passes t f s ks → ⊥)
 
 -- of the reader, for the runs of a slip: "22 for a wrong number of runs or a run not finished"
 pub record ReadsIn (t : Trace) (f : Formula) (s : SlipForm f) (ks : List ℕ) (a : Passing) : Type 0 where
   pub answer : a ≡ passing_in t s.variables s.part ks
-  pub passes : (a ≡ Passing.Passes) ↔ Passes t f s ks
-  pub does_not : (a ≡ Passing.DoesNot)
+  pub passes : (a ≡ Ok true) ↔ Passes t f s ks
+  pub does_not : (a ≡ Ok false)
       ↔ (Fits t f s ks × (Satisfies t (bind_each unbound s.variables ks) s.part → ⊥))
-  pub refused : (a ≡ Passing.Refused 22) ↔ (Fits t f s ks → ⊥)
+  pub refused : RefusedWith 22 a ↔ (Fits t f s ks → ⊥)
 
 -- ── the order of refusals ──
 -- "26 for a rule of another form, after 10"; then 21, "of the record alone"; otherwise what is said of every accepted
@@ -87,7 +92,7 @@ pub record SlipCall (file : List ℕ) (r : Record) (refuses : ℕ → Type 0)
       → (log : List ℕ) (t : Trace) → Accepted log t → r ≡ record_of t → says t (formula_of file x) s
 
 abbrev pub FindsFirst : List ℕ → Record → Finding → Type 0
-FindsFirst file r a = SlipCall file r (λ n. a ≡ without_slip (Found.Refused n)) (λ t f s. FindsIn t f s a)
+FindsFirst file r a = SlipCall file r (λ n. RefusedWith n a) (λ t f s. FindsIn t f s a)
 
 abbrev pub ReadsSlip : List ℕ → Record → Slip → Passing → Type 0
-ReadsSlip file r x a = SlipCall file r (λ n. a ≡ Passing.Refused n) (λ t f s. ReadsIn t f s (slip_runs x) a)
+ReadsSlip file r x a = SlipCall file r (λ n. RefusedWith n a) (λ t f s. ReadsIn t f s (slip_runs x) a)

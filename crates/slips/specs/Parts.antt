@@ -1,6 +1,6 @@
 -- How the code works, not what it means.
 -- What the evaluator is handed for a rule and a record, and what its answers are for a rule that has the form.
-use Rattle.std.specs.Prelude.{ℕ, ◌≤◌, ◌≡◌, Option, Some, None, List, length}
+use Rattle.std.specs.Prelude.{ℕ, ◌≤◌, ◌≡◌, List, length}
 use Rattle.lists.specs.Limits.{max_runs}
 use Rattle.trace.specs.declared.Record.{Record}
 use Rattle.trace.specs.Trace.{Trace, Accepted}
@@ -17,11 +17,8 @@ use Rattle.slip_form.specs.declared.Slip.{Slip}
 use Rattle.slip_form.specs.Form.{SlipForm}
 use Rattle.slip_form.specs.Slips.{slip_runs}
 use Rattle.slip_search.specs.First.{RanksOf}
-use Rattle.slips.specs.declared.Finding.{Finding}
-use Rattle.slips.specs.declared.Found.TheVariants as Found
-use Rattle.slips.specs.declared.Passing.{Passing}
 use Rattle.slips.specs.declared.Prepared.{Prepared}
-use Rattle.slips.specs.Answers.{with_slip, without_slip, FindsIn, ReadsIn}
+use Rattle.slips.specs.Answers.{Finding, Passing, FindsIn, ReadsIn}
 
 -- the finished runs of a trace in the order of p's ranks, and their rows
 pub record Ranked (file : List ℕ) (u : Trace) (p : Prepared) : Type 0 where
@@ -37,10 +34,6 @@ pub record PreparedFor (file : List ℕ) (x : Rule) (r : Record) (p : Prepared) 
   pub ranks_long : length p.ranks ≡ max_runs
   pub runs_few : p.runs ≤ max_runs
   pub ranked : (log : List ℕ) (u : Trace) → Accepted log u → r ≡ record_of u → Ranked file u p
-
-abbrev pub found_by : Option Slip → Finding
-found_by (Some x) = with_slip x
-found_by None = without_slip Found.Nothing
 
 -- the answers for every accepted log that leaves the record
 abbrev pub FindsOf : List ℕ → Rule → Record → Finding → Type 0

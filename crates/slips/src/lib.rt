@@ -1,45 +1,22 @@
 // Slips of a rule and a record: the runs that make the rule fail.
 //
 // `first_slip` answers the first slip that passes, in order of run numbers. `passes` reads a slip, whoever wrote it.
-// Both take any rule file, record and slip, and refuse a rule of another form with 26.
+// Both take any rule file, record and slip, and refuse a rule of another form.
 #![tactic(auto)]
 
 ghost use Rattle.std.specs.Prelude.{◌≡◌};
 ghost use Rattle.trace.specs.Record.{Valid};
 ghost use Rattle.rules.specs.Rules.{Taken};
 ghost use Rattle.slip_form.specs.Chain.{ChainAt};
-ghost use Rattle.slips.specs.Answers.{without_slip, FindsFirst, ReadsSlip};
-ghost use Rattle.slips.specs.Parts.{found_by, PreparedFor, FindsOf, ReadsOf};
+ghost use Rattle.slips.specs.Answers.{FindsFirst, ReadsSlip};
+ghost use Rattle.slips.specs.Parts.{PreparedFor, FindsOf, ReadsOf};
 
 use lists::MAX_RUNS;
+use refusals::Refusal;
 use row_table::table::TABLE_WORDS;
-use rule_file::MAX_NESTED;
 use rules::{MAX_NODES, Rule};
 use slip_form::Slip;
-use trace::{Record, RunNo};
-
-// What finding a slip answers: the slip beside it is the first that passes, or none does, or the number of a refusal.
-#[derive(Clone, Copy)]
-pub enum Found {
-    First,
-    Nothing,
-    Refused(u8),
-}
-
-// The answer, and the slip: one of no runs where there is none.
-#[derive(Clone, Copy)]
-pub struct Finding {
-    pub found: Found,
-    pub slip: Slip,
-}
-
-// What reading a slip answers: it passes or does not, or the number of a refusal.
-#[derive(Clone, Copy)]
-pub enum Passing {
-    Passes,
-    DoesNot,
-    Refused(u8),
-}
+use trace::Record;
 
 // What the evaluator is handed for a rule and a record: the shapes of the rule's nodes, the ranks of the record's runs,
 // the table of their rows, and how many runs are finished.
@@ -75,48 +52,22 @@ fn prepare(file: &[u8], rule: Rule, r: Record) -> Prepared
     }
 }
 
-// An answer without a slip.
-fn without_slip(found: Found) -> Finding
-    ensures { result ≡ without_slip found }
-{
-    Finding {
-        found: found,
-        slip: Slip {
-            count: 0,
-            run: [RunNo(0); MAX_NESTED],
-        },
-    }
-}
-
-// The answer that a search gives.
-fn found_by(s: Option<Slip>) -> Finding
-    ensures { result ≡ found_by s }
-{
-    match s {
-        Some(slip) => Finding {
-            found: Found::First,
-            slip: slip,
-        },
-        None => without_slip(Found::Nothing),
-    }
-}
-
 // The first slip of the runs of a record, for the rule whose chain of "some" begins at node `top`.
-fn first_of(file: &[u8], rule: Rule, top: usize, r: Record) -> Finding
+fn first_of(file: &[u8], rule: Rule, top: usize, r: Record) -> Option<Slip>
     requires taken { Taken file.now rule × Valid r }
     requires chain_at { ChainAt file.now rule top }
-    ensures { FindsOf file.now rule r result }
+    ensures { FindsOf file.now rule r (Ok result) }
 {
     let p = prepare(file, rule, r);
     let runs = p.runs;
     if runs == 0 {
-        return without_slip(Found::Nothing);
+        return None;
     }
     let heights = p.heights;
     let frees = p.frees;
     let ranks = p.ranks;
     let table = p.table;
-    let s = slip_search::search(
+    slip_search::search(
         file,
         rule.nodes,
         &heights,
@@ -126,12 +77,11 @@ fn first_of(file: &[u8], rule: Rule, top: usize, r: Record) -> Finding
         top,
         &ranks,
         runs - 1,
-    );
-    found_by(s)
+    )
 }
 
-// Whether a slip passes, for the same rule and record; or 22.
-fn read_slip(file: &[u8], rule: Rule, top: usize, r: Record, slip: Slip) -> Passing
+// Whether a slip passes, for the same rule and record.
+fn read_slip(file: &[u8], rule: Rule, top: usize, r: Record, slip: Slip) -> Result<bool, Refusal>
     requires taken { Taken file.now rule × Valid r }
     requires chain_at { ChainAt file.now rule top }
     ensures { ReadsOf file.now rule r slip result }
@@ -144,9 +94,9 @@ fn read_slip(file: &[u8], rule: Rule, top: usize, r: Record, slip: Slip) -> Pass
     let table = p.table;
     let n = heights[top] as usize;
     if !slip_search::is_whole(slip, n, &ranks, runs) {
-        return Passing::Refused(22);
+        return Err(Refusal::NoFinishedRun);
     }
-    if slip_search::is_true_of(
+    Ok(slip_search::is_true_of(
         file,
         rule.nodes,
         &heights,
@@ -157,52 +107,33 @@ fn read_slip(file: &[u8], rule: Rule, top: usize, r: Record, slip: Slip) -> Pass
         &ranks,
         runs - 1,
         slip,
-    ) {
-        return Passing::Passes;
-    }
-    Passing::DoesNot
+    ))
 }
 
-// The first slip of a rule and a record that passes, in order of run numbers, the outermost compared first.
-pub fn first_slip(file: &[u8], r: Record) -> Finding
+// The first slip of a rule and a record that passes, in order of run numbers, the outermost compared first; or that none does.
+pub fn first_slip(file: &[u8], r: Record) -> Result<Option<Slip>, Refusal>
     ensures { FindsFirst file.now r result }
 {
-    let read = rule_file::read_rule(file);
-    match read {
-        Err(e) => return without_slip(Found::Refused(u8::from(e))),
-        Ok(rule) => {
-            let t = slip_form::chain_top(file, rule);
-            match t {
-                None => return without_slip(Found::Refused(26)),
-                Some(top) => {
-                    if !replay::is_record(r) {
-                        return without_slip(Found::Refused(21));
-                    }
-                    return first_of(file, rule, top, r);
-                }
-            }
-        }
+    let rule = rule_file::read_rule(file)?;
+    let Some(top) = slip_form::chain_top(file, rule) else {
+        return Err(Refusal::RuleNoSlips);
+    };
+    if !replay::is_record(r) {
+        return Err(Refusal::NoRecord);
     }
+    Ok(first_of(file, rule, top, r))
 }
 
 // Whether a slip passes: all its runs are finished, and the part below the chain of "some" is true of them.
-pub fn passes(file: &[u8], r: Record, slip: Slip) -> Passing
+pub fn passes(file: &[u8], r: Record, slip: Slip) -> Result<bool, Refusal>
     ensures { ReadsSlip file.now r slip result }
 {
-    let read = rule_file::read_rule(file);
-    match read {
-        Err(e) => return Passing::Refused(u8::from(e)),
-        Ok(rule) => {
-            let t = slip_form::chain_top(file, rule);
-            match t {
-                None => return Passing::Refused(26),
-                Some(top) => {
-                    if !replay::is_record(r) {
-                        return Passing::Refused(21);
-                    }
-                    return read_slip(file, rule, top, r, slip);
-                }
-            }
-        }
+    let rule = rule_file::read_rule(file)?;
+    let Some(top) = slip_form::chain_top(file, rule) else {
+        return Err(Refusal::RuleNoSlips);
+    };
+    if !replay::is_record(r) {
+        return Err(Refusal::NoRecord);
     }
+    read_slip(file, rule, top, r, slip)
 }

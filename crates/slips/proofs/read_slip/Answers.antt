@@ -1,10 +1,6 @@
 -- A slip that is not whole does not fit; of one that is, the part is true by ranks exactly if it is by run numbers.
-use mathlib.Core.Path.{ap, subst}
-use mathlib.Core.Bool.{Bool, cond}
 use native.Mathlib.Omega.{arith}
 use borrow.Author.Tests.{not-true, not-false}
-use Rattle.slips.specs.declared.Passing.TheVariants as Passing
-use Rattle.slips.specs.Parts.{ReadsOf}
 use Rattle.slips.proofs.Chains.{chain_low, top_small, chain_ready, chain_byte, whole_chain, whole_some, reads_refused, reads_true}
 use Rattle.slips.proofs.read_slip.Goals as goal
 
@@ -28,10 +24,6 @@ is_true_of-requires c = let few = c.prepare-p.ensures.runs_few in
     let some = whole_some c.args.file.now c.args.rule c.args.top c.requires.taken.0 c.requires.chain_at c.args.r c.prepare-p.result c.prepare-p.ensures _ whole in
     record { ready = (chain_ready c.args.file.now c.args.rule c.args.top c.requires.taken.0 c.requires.chain_at c.args.r c.prepare-p.result c.prepare-p.ensures, omega (arith, few, some), c.prepare-p.ensures.ranks_long); top_bound = (chain_low c.args.file.now c.args.rule c.args.top c.requires.taken.0 c.requires.chain_at, whole) }
 
-pub returns-then-is_true_of : goal.returns-then-is_true_of
-returns-then-is_true_of c = subst (ReadsOf c.args.file.now c.args.rule c.args.r c.args.slip) (ap (λ (b : Bool). cond b Passing.Passes Passing.DoesNot) c.if-is_true_of.true)
-    (reads_true c.args.file.now c.args.rule c.args.top c.requires.taken.0 c.requires.chain_at c.args.r c.prepare-p.result c.prepare-p.ensures _ _ (whole_chain c.args.file.now c.args.rule c.args.top c.requires.taken.0 c.requires.chain_at c.args.r c.prepare-p.result c.prepare-p.ensures _ (c.is_whole.ensures.yes (not-false _ c.if-not-is_whole.false-raw))) c.is_true_of.ensures)
-
 pub returns : goal.returns
-returns c = subst (ReadsOf c.args.file.now c.args.rule c.args.r c.args.slip) (ap (λ (b : Bool). cond b Passing.Passes Passing.DoesNot) c.if-is_true_of.false)
-    (reads_true c.args.file.now c.args.rule c.args.top c.requires.taken.0 c.requires.chain_at c.args.r c.prepare-p.result c.prepare-p.ensures _ _ (whole_chain c.args.file.now c.args.rule c.args.top c.requires.taken.0 c.requires.chain_at c.args.r c.prepare-p.result c.prepare-p.ensures _ (c.is_whole.ensures.yes (not-false _ c.if-not-is_whole.false-raw))) c.is_true_of.ensures)
+returns c =
+    reads_true c.args.file.now c.args.rule c.args.top c.requires.taken.0 c.requires.chain_at c.args.r c.prepare-p.result c.prepare-p.ensures _ _ (whole_chain c.args.file.now c.args.rule c.args.top c.requires.taken.0 c.requires.chain_at c.args.r c.prepare-p.result c.prepare-p.ensures _ (c.is_whole.ensures.yes (not-false _ c.if-not-is_whole.false-raw))) c.is_true_of.ensures

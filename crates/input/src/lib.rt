@@ -1,12 +1,12 @@
-// Reading for the programs: the bytes of a file or of standard input, and whether a read failed.
+// Reading for the programs: the bytes of a file or of standard input, or why a read failed.
 //
 // `fill` reads until a buffer is full, the input ends or a read fails, and tells the last two apart. `read_file` reads a file,
-// `read_rule` the rule file, and `complain` says on standard error that a read failed. Why it failed stands in the `why` that each of
-// them is lent. `fail` says the same of any call that failed, and `Streams` are the three streams that a program is given.
+// `read_rule` the rule file, and `complain` says on standard error that a read failed, and why. `fail` says the same of any call that
+// failed, and `Streams` are the three streams that a program is given.
 #![tactic(auto)]
 
-ghost use Rattle.std.specs.Prelude.{◌≡◌, length, min, ◌≤◌};
-ghost use Rattle.input.specs.Filled.{Fills, came_of, Brings};
+ghost use Rattle.std.specs.Prelude.{◌≡◌, length, ◌≤◌, IfOk};
+ghost use Rattle.input.specs.Filled.{Fills, brought};
 
 use std::fs::File;
 use std::io;
@@ -21,108 +21,64 @@ pub struct Streams {
     pub error: Stderr,
 }
 
-// How many bytes stand at the start of the buffer, up to the end of the input or of the buffer; or a read failed.
-#[derive(Clone, Copy)]
-pub enum Filled {
-    Bytes(usize),
-    Failed,
-}
-
-// What one read brought.
-#[derive(Clone, Copy)]
-enum Came {
-    Some(usize),
-    Nothing,
-    Failed,
-}
-
-// A number of the buffer's bytes: no more than there are.
-fn count(n: usize, buf: &[u8]) -> usize
-    ensures { result ≡ min n (length buf.now) }
-{
-    if n <= buf.len() {
-        return n;
-    }
-    buf.len()
-}
-
-// What the answer of a read into the buffer says. A read that fails is not the end of the input.
-fn came_of(got: io::Result<usize>, buf: &[u8]) -> Came
-    ensures { result ≡ came_of got (length buf.now) }
+// What a read into the buffer brought: no more bytes than there is room for. A read that fails is not the end of the input.
+fn brought(got: io::Result<usize>, buf: &[u8]) -> io::Result<usize>
+    ensures { result ≡ brought got (length buf.now) }
 {
     match got {
-        Err(_) => Came::Failed,
-        Ok(n) => {
-            if n == 0 {
-                return Came::Nothing;
-            }
-            Came::Some(count(n, buf))
-        }
+        Err(e) => Err(e),
+        Ok(n) => Ok(n.min(buf.len())),
     }
 }
 
-// Reads once, and keeps why a read failed.
-fn read_some<R: Read>(from: &mut R, buf: &mut [u8], why: &mut Option<io::Error>) -> Came
-    ensures { Brings result (length buf.old) }
+// Reads once.
+fn read_some<R: Read>(from: &mut R, buf: &mut [u8]) -> io::Result<usize>
+    ensures { IfOk result (λ n. n ≤ length buf.old) }
 {
     let got = from.read(buf);
-    if let Err(e) = got {
-        *why = Some(e);
-    }
-    came_of(got, buf)
+    brought(got, buf)
 }
 
-// Reads until the buffer is full, the input ends or a read fails.
-pub fn fill<R: Read>(from: &mut R, buf: &mut [u8], why: &mut Option<io::Error>) -> Filled
+// Reads until the buffer is full, the input ends or a read fails: how many bytes stand at the start of the buffer.
+pub fn fill<R: Read>(from: &mut R, buf: &mut [u8]) -> io::Result<usize>
     ensures { Fills result buf.new }
 {
     let mut done: usize = 0;
+    // Kept: no count, since each read says how many bytes it brings.
     while done < buf.len() {
-        let came = read_some(from, &mut buf[done..], why);
-        match came {
-            Came::Failed => return Filled::Failed,
-            Came::Nothing => return Filled::Bytes(done),
-            Came::Some(n) => {
-                done += n;
-            }
+        let n = read_some(from, &mut buf[done..])?;
+        if n == 0 {
+            return Ok(done);
         }
+        done += n;
     }
-    Filled::Bytes(done)
+    Ok(done)
 }
 
 // Puts the first bytes of the file with a name at the start of the buffer. One that can't be opened counts as no bytes.
-pub fn read_file<F: Files>(
-    files: &F,
-    name: &[u8],
-    buf: &mut [u8],
-    why: &mut Option<io::Error>,
-) -> Filled
+pub fn read_file<F: Files>(files: &F, name: &[u8], buf: &mut [u8]) -> io::Result<usize>
     ensures { Fills result buf.new }
 {
     let Ok(path) = std::str::from_utf8(name) else {
-        return Filled::Bytes(0);
+        return Ok(0);
     };
     match File::open(files, path) {
-        Err(_) => Filled::Bytes(0),
-        Ok(mut file) => fill(&mut file, buf, why),
+        Err(_) => Ok(0),
+        Ok(mut file) => fill(&mut file, buf),
     }
 }
 
 // Puts the first bytes of the file rule.rul at the start of the buffer, as `read_file` does.
-pub fn read_rule<F: Files>(files: &F, buf: &mut [u8], why: &mut Option<io::Error>) -> Filled
+pub fn read_rule<F: Files>(files: &F, buf: &mut [u8]) -> io::Result<usize>
     ensures { Fills result buf.new }
 {
-    read_file(files, b"rule.rul", buf, why)
+    read_file(files, b"rule.rul", buf)
 }
 
 // Says on standard error that a read failed, and why, if one did; the name is that of the program and of what it reads.
-pub fn complain(a: Filled, name: &[u8], why: Option<io::Error>, error: Stderr) {
-    match a {
-        Filled::Bytes(_) => return,
-        Filled::Failed => {
-            fail(name, why, error);
-            return;
-        }
+pub fn complain(a: io::Result<usize>, name: &[u8], error: Stderr) {
+    if let Err(e) = a {
+        fail(name, e, error);
     }
 }
 
@@ -135,7 +91,7 @@ fn told_len(text: &[u8]) -> usize
     };
     match whole.find(" (os error ") {
         None => text.len(),
-        Some(n) => count(n, text),
+        Some(n) => n.min(text.len()),
     }
 }
 
@@ -151,12 +107,9 @@ fn put_error(e: io::Error, buf: &mut [u8; 128]) -> usize
 }
 
 // Writes a line to standard error: what failed, as the caller names it, a colon and why.
-pub fn fail(what: &[u8], why: Option<io::Error>, error: Stderr) {
+pub fn fail(what: &[u8], why: io::Error, error: Stderr) {
     let mut text = [0u8; 128];
-    let size = match why {
-        None => 0,
-        Some(e) => put_error(e, &mut text),
-    };
+    let size = put_error(why, &mut text);
     let told = told_len(&text[..size]);
     let _ = error.write_all(what);
     let _ = error.write_all(b": ");
@@ -192,15 +145,11 @@ mod tests {
         }
     }
 
-    // How many of four bytes are filled, 5 where a read failed, and 6 where it failed and no reason is kept.
+    // How many of four bytes are filled, or 5 where a read failed.
     fn filled(left: usize, fails: bool) -> usize {
         let mut buf = [0u8; 4];
-        let mut why = None;
         let mut from = Slow { left, fails };
-        match fill(&mut from, &mut buf, &mut why) {
-            Filled::Bytes(n) => n,
-            Filled::Failed => { if why.is_some() { 5 } else { 6 } }
-        }
+        fill(&mut from, &mut buf).unwrap_or(5)
     }
 
     #[test]

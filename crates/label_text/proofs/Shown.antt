@@ -6,9 +6,9 @@ use native.Mathlib.Omega.{arith}
 use lib.ListN.{length, take, drop}
 use lib.Seq.{take_all}
 use denote.Ref.{Bor}
-use Rattle.input.specs.Filled.{Fills}
-use Rattle.input.specs.declared.Filled.{Filled}
-use Rattle.input.specs.declared.Filled.TheVariants.{Bytes, Failed}
+use Rattle.std.specs.declared.io.Error.{Error}
+use Rattle.input.specs.Filled.{Filled, Fills}
+use Rattle.std.specs.Prelude.{Ok, Err}
 use Rattle.input.proofs.Answers.{counted}
 use Rattle.output.specs.declared.Written.{Written}
 use Rattle.label_book.specs.Piece.{piece_for, TellsPiece, StandsIn, Hands}
@@ -34,28 +34,28 @@ refusal_kept p c e = sym (ap refused_line e)
 -- ── both reads brought bytes ──
 -- how many bytes an answer counts
 abbrev bytes_of : Filled → ℕ
-bytes_of (Bytes n) = n
-bytes_of Failed = 0
+bytes_of (Ok n) = n
+bytes_of (Err e) = 0
 
-same_count : (n m : ℕ) → Bytes n ≡ Bytes m → n ≡ m
+same_count : (n m : ℕ) → ◌≡◌ {A = Filled} (Ok n) (Ok m) → n ≡ m
 same_count n m e = ap bytes_of e
 
-not_both : (a : Filled) (n : ℕ) → a ≡ Bytes n → a ≡ Failed → ⊥
-not_both a n e f = let q : Bytes n ≡ Failed = sym e ∙ f in let z : ◌≡◌ {A = ℕ} 0 1 = cc in omega arith
+not_both : (a : Filled) (n : ℕ) (x : Error) → a ≡ Ok n → a ≡ Err x → ⊥
+not_both a n x e f = let q : ◌≡◌ {A = Filled} (Ok n) (Err x) = sym e ∙ f in let z : ◌≡◌ {A = ℕ} 0 1 = cc in omega arith
 
-module _ (a b : Filled) (book label : List ℕ) (n m : ℕ) (e : a ≡ Bytes n) (g : b ≡ Bytes m) (h : n < book_room) where
+module _ (a b : Filled) (book label : List ℕ) (n m : ℕ) (e : a ≡ Ok n) (g : b ≡ Ok m) (h : n < book_room) where
   -- where the first bytes of the input decide what is printed
   prints : (f : List ℕ → List ℕ → List ℕ) → ((book input : List ℕ) → f book (take label_room input) ≡ f book input)
       → (s : List ℕ) → s ≡ f (take n book) (take m label) → Prints f a book b label s
   prints f cut s q =
-      let same : (i j : ℕ) → a ≡ Bytes i → b ≡ Bytes j → s ≡ f (take i book) (take j label) =
+      let same : (i j : ℕ) → a ≡ Ok i → b ≡ Ok j → s ≡ f (take i book) (take j label) =
       λ i j x y. q ∙ ap₂ (λ (u v : ℕ). f (take u book) (take v label)) (same_count n i (sym e ∙ x)) (same_count m j (sym g ∙ y))
       in
       record {
         read = λ i j x y _. same i j x y;
         whole = λ i j x y _ input k. same i j x y ∙ (ap (f (take i book)) k ∙ cut (take i book) input);
-        book_failed = λ x. absurd (not_both a n e x);
-        label_failed = λ x. absurd (not_both b m g x);
+        book_failed = λ y x. absurd (not_both a n y e x);
+        label_failed = λ y x. absurd (not_both b m y g x);
         too_long = λ i x k. absurd (let same-n = same_count n i (sym e ∙ x) in omega arith);
       }
 

@@ -1,7 +1,8 @@
 -- What the program is to print on its two outputs, of the book and the label that it read.
 use Rattle.std.specs.Prelude.{ℕ, ◌-◌, ◌<◌, ◌≤◌, ◌≡◌, List, [], length, take, drop}
-use Rattle.input.specs.declared.Filled.{Filled}
-use Rattle.input.specs.declared.Filled.TheVariants.{Bytes, Failed}
+use Rattle.std.specs.declared.io.Error.{Error}
+use Rattle.input.specs.Filled.{Filled}
+use Rattle.std.specs.Prelude.{Ok, Err}
 use Rattle.label_book.specs.Piece.{piece_for}
 use Rattle.label_book.specs.declared.Piece.{Piece}
 use Rattle.label_book.specs.declared.Piece.TheVariants.{InBook, InLog, Refused}
@@ -42,13 +43,13 @@ refusal_printed book label = refused_line (input_piece book label)
 -- What is printed is s, where the two reads answered a and b and left these buffers: what `f` says of the n bytes of the book and the m
 -- bytes of the input that were read.
 pub record Prints (f : List ℕ → List ℕ → List ℕ) (a : Filled) (book : List ℕ) (b : Filled) (label s : List ℕ) : Type 0 where
-  pub read : (n m : ℕ) → a ≡ Bytes n → b ≡ Bytes m → n < book_room → s ≡ f (take n book) (take m label)
+  pub read : (n m : ℕ) → a ≡ Ok n → b ≡ Ok m → n < book_room → s ≡ f (take n book) (take m label)
   -- these are the first 25 bytes of an input: what is printed is what `f` says of the whole input
-  pub whole : (n m : ℕ) → a ≡ Bytes n → b ≡ Bytes m → n < book_room → (input : List ℕ) → take m label ≡ take label_room input → s ≡ f (take n book) input
+  pub whole : (n m : ℕ) → a ≡ Ok n → b ≡ Ok m → n < book_room → (input : List ℕ) → take m label ≡ take label_room input → s ≡ f (take n book) input
   -- nothing where a read failed, or the book fills its buffer
-  pub book_failed : a ≡ Failed → s ≡ []
-  pub label_failed : b ≡ Failed → s ≡ []
-  pub too_long : (n : ℕ) → a ≡ Bytes n → book_room ≤ n → s ≡ []
+  pub book_failed : (x : Error) → a ≡ Err x → s ≡ []
+  pub label_failed : (x : Error) → b ≡ Err x → s ≡ []
+  pub too_long : (n : ℕ) → a ≡ Ok n → book_room ≤ n → s ≡ []
 
 abbrev pub PrintsText : Filled → List ℕ → Filled → List ℕ → List ℕ → Type 0
 PrintsText a book b label s = Prints text_printed a book b label s

@@ -10,13 +10,13 @@
 
 ghost use Rattle.std.specs.Prelude.{◌<◌, ◌≡◌, length};
 ghost use Rattle.input.specs.Filled.{Fills};
-ghost use Rattle.input.specs.declared.Filled.TheVariants.{Bytes};
 ghost use Rattle.told.specs.Told.{error_of};
 ghost use Rattle.label_text.specs.Printed.{book_room, label_room, refused_line, PrintsText, PrintsRefusal};
 
-use input::{Filled, Streams};
+use input::Streams;
 use label_book::Piece;
 use output::Written;
+use std::io;
 use std::rt::Files;
 use told::LINE_BYTES;
 
@@ -34,10 +34,10 @@ fn book_buffer() -> [u8; BOOK_ROOM]
 }
 
 // Says on standard error that the book is too long, if it fills the buffer.
-fn complain_of_length(streams: Streams, a: Filled) {
+fn complain_of_length(streams: Streams, a: io::Result<usize>) {
     match a {
-        Filled::Failed => return,
-        Filled::Bytes(n) => {
+        Err(_) => return,
+        Ok(n) => {
             if n < BOOK_ROOM {
                 return;
             }
@@ -50,26 +50,24 @@ fn complain_of_length(streams: Streams, a: Filled) {
 }
 
 // Puts the book's first bytes at the start of the buffer.
-fn read_book<F: Files>(files: &F, streams: Streams, book: &mut [u8]) -> Filled
+fn read_book<F: Files>(files: &F, streams: Streams, book: &mut [u8]) -> io::Result<usize>
     requires { length book.old ≡ book_room }
     ensures { Fills result book.new }
 {
-    let mut why = None;
-    let a = input::read_file(files, b"book", book, &mut why);
-    input::complain(a, b"label_text: book", why, streams.error);
+    let a = input::read_file(files, b"book", book);
+    input::complain(a, b"label_text: book", streams.error);
     complain_of_length(streams, a);
     a
 }
 
 // Puts the input's first bytes at the start of the buffer.
-fn read_label(streams: Streams, label: &mut [u8]) -> Filled
+fn read_label(streams: Streams, label: &mut [u8]) -> io::Result<usize>
     requires { length label.old ≡ label_room }
     ensures { Fills result label.new }
 {
     let mut from = streams.input;
-    let mut why = None;
-    let a = input::fill(&mut from, label, &mut why);
-    input::complain(a, b"label_text: standard input", why, streams.error);
+    let a = input::fill(&mut from, label);
+    input::complain(a, b"label_text: standard input", streams.error);
     a
 }
 
@@ -86,17 +84,17 @@ fn refusal_of(p: Piece) -> Written
 
 // Writes a text to standard output, and says on standard error where that fails. It asks that this is the text to be printed of the two
 // buffers and what the two reads answered.
-fn print_text(streams: Streams, book: &[u8], a: Filled, label: &[u8], b: Filled, text: &[u8])
+fn print_text(streams: Streams, book: &[u8], a: io::Result<usize>, label: &[u8], b: io::Result<usize>, text: &[u8])
     requires { PrintsText a book.now b label.now text.now }
 {
     if let Err(e) = streams.output.write_all(text) {
-        input::fail(b"label_text: standard output", Some(e), streams.error);
+        input::fail(b"label_text: standard output", e, streams.error);
     }
 }
 
 // Writes a refusal's line to standard error. It asks that this is the line to be printed of the two buffers and what the two reads
 // answered.
-fn print_refusal(streams: Streams, book: &[u8], a: Filled, label: &[u8], b: Filled, line: &[u8])
+fn print_refusal(streams: Streams, book: &[u8], a: io::Result<usize>, label: &[u8], b: io::Result<usize>, line: &[u8])
     requires { PrintsRefusal a book.now b label.now line.now }
 {
     let _ = streams.error.write_all(line);
@@ -106,13 +104,13 @@ fn print_refusal(streams: Streams, book: &[u8], a: Filled, label: &[u8], b: Fill
 fn show_text<'a>(
     streams: Streams,
     book: &'a [u8],
-    a: Filled,
+    a: io::Result<usize>,
     n: usize,
     label: &'a [u8],
-    b: Filled,
+    b: io::Result<usize>,
     m: usize,
 )
-    requires { (a ≡ Bytes n) × (b ≡ Bytes m) × Fills a book.now × Fills b label.now × (n < book_room) }
+    requires { (a ≡ Ok n) × (b ≡ Ok m) × Fills a book.now × Fills b label.now × (n < book_room) }
 {
     let text = label_book::text_for(&book[..n], &label[..m], 0, m);
     print_text(streams, book, a, label, b, text);
@@ -122,13 +120,13 @@ fn show_text<'a>(
 fn show_refusal<'a>(
     streams: Streams,
     book: &'a [u8],
-    a: Filled,
+    a: io::Result<usize>,
     n: usize,
     label: &'a [u8],
-    b: Filled,
+    b: io::Result<usize>,
     m: usize,
 )
-    requires { (a ≡ Bytes n) × (b ≡ Bytes m) × Fills a book.now × Fills b label.now × (n < book_room) }
+    requires { (a ≡ Ok n) × (b ≡ Ok m) × Fills a book.now × Fills b label.now × (n < book_room) }
 {
     let p = label_book::piece_for(&book[..n], &label[..m], 0, m);
     let w = refusal_of(p);
@@ -138,14 +136,14 @@ fn show_refusal<'a>(
 }
 
 // Prints what is to be printed of the two buffers and what the two reads answered: nothing where one failed or the book is too long.
-fn print<'a>(streams: Streams, book: &'a [u8], a: Filled, label: &'a [u8], b: Filled)
+fn print<'a>(streams: Streams, book: &'a [u8], a: io::Result<usize>, label: &'a [u8], b: io::Result<usize>)
     requires { Fills a book.now × Fills b label.now }
 {
     match a {
-        Filled::Failed => return,
-        Filled::Bytes(n) => match b {
-            Filled::Failed => return,
-            Filled::Bytes(m) => {
+        Err(_) => return,
+        Ok(n) => match b {
+            Err(_) => return,
+            Ok(m) => {
                 if n < BOOK_ROOM {
                     show_text(streams, book, a, n, label, b, m);
                     show_refusal(streams, book, a, n, label, b, m);

@@ -5,8 +5,9 @@ use mathlib.Core.List.{List}
 use native.Mathlib.Omega.{arith}
 use lib.ListN.{take}
 use Rattle.input.specs.Counts.{IsPrefixLen}
-use Rattle.input.specs.declared.Filled.{Filled}
-use Rattle.input.specs.declared.Filled.TheVariants.{Bytes, Failed}
+use Rattle.std.specs.declared.io.Error.{Error}
+use Rattle.input.specs.Filled.{Filled}
+use Rattle.std.specs.Prelude.{Ok, Err}
 use Rattle.whole_log.specs.declared.Mode.{Mode}
 use Rattle.whole_log.specs.Part.{read_part}
 use Rattle.report.specs.Text.{report_text}
@@ -15,48 +16,48 @@ use Rattle.log_check.specs.Printed.{mode_said, Printed, Prints}
 
 -- how many bytes an answer counts
 abbrev bytes_of : Filled → ℕ
-bytes_of (Bytes n) = n
-bytes_of Failed = 0
+bytes_of (Ok n) = n
+bytes_of (Err e) = 0
 
-not_both : (a : Filled) (n : ℕ) → a ≡ Bytes n → a ≡ Failed → ⊥
-not_both a n e f = let q : Bytes n ≡ Failed = sym e ∙ f in let z : ◌≡◌ {A = ℕ} 0 1 = cc in omega arith
+not_both : (a : Filled) (n : ℕ) (x : Error) → a ≡ Ok n → a ≡ Err x → ⊥
+not_both a n x e f = let q : ◌≡◌ {A = Filled} (Ok n) (Err x) = sym e ∙ f in let z : ◌≡◌ {A = ℕ} 0 1 = cc in omega arith
 
 module _ (word : List ℕ) (r l : Filled) (rule log text : List ℕ) where
-  pub rule_unread : r ≡ Failed → IsPrefixLen 0 text × Prints word r rule l log (take 0 text)
-  rule_unread e = (
+  pub rule_unread : (x : Error) → r ≡ Err x → IsPrefixLen 0 text × Prints word r rule l log (take 0 text)
+  rule_unread x e = (
     (omega arith, refl),
     record {
-      read = λ n m p q. absurd (not_both r n p e);
-      whole = λ n m p q. absurd (not_both r n p e);
-      rule_failed = λ p. refl;
-      log_failed = λ p. refl;
+      read = λ n m p q. absurd (not_both r n x p e);
+      whole = λ n m p q. absurd (not_both r n x p e);
+      rule_failed = λ y p. refl;
+      log_failed = λ y p. refl;
       full = full_said word;
     },
   )
 
-  pub log_unread : l ≡ Failed → IsPrefixLen 0 text × Prints word r rule l log (take 0 text)
-  log_unread e = (
+  pub log_unread : (x : Error) → l ≡ Err x → IsPrefixLen 0 text × Prints word r rule l log (take 0 text)
+  log_unread x e = (
     (omega arith, refl),
     record {
-      read = λ n m p q. absurd (not_both l m q e);
-      whole = λ n m p q. absurd (not_both l m q e);
-      rule_failed = λ p. refl;
-      log_failed = λ p. refl;
+      read = λ n m p q. absurd (not_both l m x q e);
+      whole = λ n m p q. absurd (not_both l m x q e);
+      rule_failed = λ y p. refl;
+      log_failed = λ y p. refl;
       full = full_said word;
     },
   )
 
-  pub both_read : (n m k : ℕ) → r ≡ Bytes n → l ≡ Bytes m → (mode : Mode) → mode ≡ mode_said word → Printed mode (take n rule) (take m log) text k → IsPrefixLen k text × Prints word r rule l log (take k text)
+  pub both_read : (n m k : ℕ) → r ≡ Ok n → l ≡ Ok m → (mode : Mode) → mode ≡ mode_said word → Printed mode (take n rule) (take m log) text k → IsPrefixLen k text × Prints word r rule l log (take k text)
   both_read n m k e f mode said q =
       let p : Printed (mode_said word) (take n rule) (take m log) text k = subst (λ (y : Mode). Printed y (take n rule) (take m log) text k) said q in
-      let same_rule : (a : ℕ) → r ≡ Bytes a → take n rule ≡ take a rule = λ a g. ap (λ (x : Filled). take (bytes_of x) rule) (sym e ∙ g) in
-      let same_log : (a : ℕ) → l ≡ Bytes a → take m log ≡ take a log = λ a g. ap (λ (x : Filled). take (bytes_of x) log) (sym f ∙ g) in (
+      let same_rule : (a : ℕ) → r ≡ Ok a → take n rule ≡ take a rule = λ a g. ap (λ (x : Filled). take (bytes_of x) rule) (sym e ∙ g) in
+      let same_log : (a : ℕ) → l ≡ Ok a → take m log ≡ take a log = λ a g. ap (λ (x : Filled). take (bytes_of x) log) (sym f ∙ g) in (
         p.counts,
         record {
           read = λ a b g h. p.bytes ∙ ap₂ (λ (u v : List ℕ). report_text u (read_part (mode_said word) u v)) (same_rule a g) (same_log b h);
           whole = λ a b g h file input u v. p.whole file input (same_rule a g ∙ u) (same_log b h ∙ v);
-          rule_failed = λ g. absurd (not_both r n e g);
-          log_failed = λ g. absurd (not_both l m f g);
+          rule_failed = λ y g. absurd (not_both r n y e g);
+          log_failed = λ y g. absurd (not_both l m y f g);
           full = full_said word;
         },
       )

@@ -2,8 +2,9 @@
 use Rattle.std.specs.Prelude.{ℕ, ◌≡◌, ◌↔◌, cond, List, [], take}
 use Rattle.lists.specs.Lists.{bytes, same?}
 use Rattle.input.specs.Counts.{IsPrefixLen}
-use Rattle.input.specs.declared.Filled.{Filled}
-use Rattle.input.specs.declared.Filled.TheVariants.{Bytes, Failed}
+use Rattle.std.specs.declared.io.Error.{Error}
+use Rattle.input.specs.Filled.{Filled}
+use Rattle.std.specs.Prelude.{Ok, Err}
 use Rattle.whole_log.specs.declared.Mode.{Mode}
 use Rattle.whole_log.specs.declared.Mode.TheVariants.{FirstFailure, Full}
 use Rattle.whole_log.specs.Part.{read_part}
@@ -31,11 +32,11 @@ pub record Printed (mode : Mode) (rule log text : List ℕ) (n : ℕ) : Type 0 w
 -- What is printed is the text s: the report, in the mode that the word names, of the first n bytes of one buffer and the first m of the
 -- other, where the two reads brought as many, and nothing where a read failed.
 pub record Prints (word : List ℕ) (r : Filled) (rule : List ℕ) (l : Filled) (log s : List ℕ) : Type 0 where
-  pub read : (n m : ℕ) → r ≡ Bytes n → l ≡ Bytes m → s ≡ report_text (take n rule) (read_part (mode_said word) (take n rule) (take m log))
+  pub read : (n m : ℕ) → r ≡ Ok n → l ≡ Ok m → s ≡ report_text (take n rule) (read_part (mode_said word) (take n rule) (take m log))
   -- these are the first bytes of a rule file and a log: the report is that of the whole file and the whole log
-  pub whole : (n m : ℕ) → r ≡ Bytes n → l ≡ Bytes m → (file input : List ℕ) → take n rule ≡ take rule_room file → take m log ≡ take log_room input
+  pub whole : (n m : ℕ) → r ≡ Ok n → l ≡ Ok m → (file input : List ℕ) → take n rule ≡ take rule_room file → take m log ≡ take log_room input
       → s ≡ report_text file (read_part (mode_said word) file input)
-  pub rule_failed : r ≡ Failed → s ≡ []
-  pub log_failed : l ≡ Failed → s ≡ []
+  pub rule_failed : (x : Error) → r ≡ Err x → s ≡ []
+  pub log_failed : (x : Error) → l ≡ Err x → s ≡ []
   -- "exactly": no other word names the full mode
   pub full : (mode_said word ≡ Full) ↔ (word ≡ bytes "full")

@@ -16,10 +16,11 @@ ghost use Rattle.log_check.specs.Printed.{rule_room, log_room, mode_said, Printe
 ghost use Rattle.pairs.specs.declared.Layout.TheVariants.{Half};
 ghost use Rattle.pairs.specs.Layout.{work_size};
 
-use input::{Filled, Streams};
+use input::Streams;
 use lists::MAX_LINES;
 use pairs::{HALF_BYTES, Layout};
 use report::{REPORT_BYTES, Reported};
+use std::io;
 use std::rt::{Env, Files};
 use whole_log::Mode;
 
@@ -62,25 +63,23 @@ fn mode_of(word: &[u8]) -> Mode
 }
 
 // Puts the rule file's first bytes at the start of the buffer.
-fn read_rule<F: Files>(files: &F, streams: Streams, rule: &mut [u8]) -> Filled
+fn read_rule<F: Files>(files: &F, streams: Streams, rule: &mut [u8]) -> io::Result<usize>
     requires { length rule.old ≡ rule_room }
     ensures { Fills result rule.new }
 {
-    let mut why = None;
-    let a = input::read_rule(files, rule, &mut why);
-    input::complain(a, b"log_check: rule.rul", why, streams.error);
+    let a = input::read_rule(files, rule);
+    input::complain(a, b"log_check: rule.rul", streams.error);
     a
 }
 
 // Puts the log's first bytes at the start of the buffer.
-fn read_log(streams: Streams, log: &mut [u8]) -> Filled
+fn read_log(streams: Streams, log: &mut [u8]) -> io::Result<usize>
     requires { length log.old ≡ log_room }
     ensures { Fills result log.new }
 {
     let mut from = streams.input;
-    let mut why = None;
-    let a = input::fill(&mut from, log, &mut why);
-    input::complain(a, b"log_check: standard input", why, streams.error);
+    let a = input::fill(&mut from, log);
+    input::complain(a, b"log_check: standard input", streams.error);
     a
 }
 
@@ -109,9 +108,9 @@ fn make_report(
 fn text_of(
     word: &[u8],
     rule: &[u8],
-    r: Filled,
+    r: io::Result<usize>,
     log: &[u8],
-    l: Filled,
+    l: io::Result<usize>,
     work: &mut [u8],
     verdicts: &mut [u8],
     text: &mut [u8],
@@ -121,10 +120,10 @@ fn text_of(
     ensures { IsPrefixLen result text.new × Prints word.now r rule.now l log.now (take result text.new) }
 {
     match r {
-        Filled::Failed => return 0,
-        Filled::Bytes(n) => match l {
-            Filled::Failed => return 0,
-            Filled::Bytes(m) => {
+        Err(_) => return 0,
+        Ok(n) => match l {
+            Err(_) => return 0,
+            Ok(m) => {
                 let mode = mode_of(word);
                 return make_report(mode, &rule[..n], &log[..m], work, verdicts, text);
             }
@@ -138,20 +137,20 @@ fn hand_on(
     streams: Streams,
     word: &[u8],
     rule: &[u8],
-    r: Filled,
+    r: io::Result<usize>,
     log: &[u8],
-    l: Filled,
+    l: io::Result<usize>,
     text: &[u8],
 )
     requires { Prints word.now r rule.now l log.now text.now }
 {
     if let Err(e) = streams.output.write_all(text) {
-        input::fail(b"log_check: standard output", Some(e), streams.error);
+        input::fail(b"log_check: standard output", e, streams.error);
     }
 }
 
 // Prints what is to be printed of the word, the two buffers and what the two reads answered.
-fn print(streams: Streams, word: &[u8], rule: &[u8], r: Filled, log: &[u8], l: Filled)
+fn print(streams: Streams, word: &[u8], rule: &[u8], r: io::Result<usize>, log: &[u8], l: io::Result<usize>)
     requires { Fills r rule.now × Fills l log.now }
 {
     let mut work = [0u8; HALF_BYTES];

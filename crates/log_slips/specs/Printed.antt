@@ -4,8 +4,9 @@
 -- LF.
 use Rattle.std.specs.Prelude.{ℕ, ◌+◌, ◌≡◌, List, [], ◌∷◌, ◌++◌, take}
 use Rattle.input.specs.Counts.{IsPrefixLen}
-use Rattle.input.specs.declared.Filled.{Filled}
-use Rattle.input.specs.declared.Filled.TheVariants.{Bytes, Failed}
+use Rattle.std.specs.declared.io.Error.{Error}
+use Rattle.input.specs.Filled.{Filled}
+use Rattle.std.specs.Prelude.{Ok, Err}
 use Rattle.lines.specs.Log.{lines_of}
 use Rattle.trace.specs.Trace.{Trace, no_trace, next, step}
 use Rattle.rules.specs.declared.Rule.{Rule}
@@ -71,12 +72,12 @@ pub record Printed (file log text : List ℕ) (n : ℕ) : Type 0 where
 -- What is printed is the text s: that of the first n bytes of one buffer and the first m of the other, where the two
 -- reads brought as many, and nothing where a read failed.
 pub record Prints (r : Filled) (rule : List ℕ) (l : Filled) (log s : List ℕ) : Type 0 where
-  pub read : (n m : ℕ) → r ≡ Bytes n → l ≡ Bytes m → Shows (take n rule) (take m log) s
+  pub read : (n m : ℕ) → r ≡ Ok n → l ≡ Ok m → Shows (take n rule) (take m log) s
   -- these are the first bytes of a rule file and a log: the text is that of the whole file and the whole log
-  pub whole : (n m : ℕ) → r ≡ Bytes n → l ≡ Bytes m
+  pub whole : (n m : ℕ) → r ≡ Ok n → l ≡ Ok m
       → (file input : List ℕ) → take n rule ≡ take rule_room file → take m log ≡ take log_room input → Shows file input s
-  pub rule_failed : r ≡ Failed → s ≡ []
-  pub log_failed : l ≡ Failed → s ≡ []
+  pub rule_failed : (x : Error) → r ≡ Err x → s ≡ []
+  pub log_failed : (x : Error) → l ≡ Err x → s ≡ []
 
 -- it stands in the first n bytes of the buffer
 pub record Prepared (r : Filled) (rule : List ℕ) (l : Filled) (log text : List ℕ) (n : ℕ) : Type 0 where

@@ -15,10 +15,11 @@ ghost use Rattle.slip_form.specs.Slips.{slip_runs};
 ghost use Rattle.log_slips.specs.Printed.{rule_room, log_room, runs_text, slip_text, Printed, Prints, Prepared};
 ghost use Rattle.log_slips.specs.Walk.{found_text, text_size, Walked, Refuses, Stops, TakesLine, Steps, ShowsLines};
 
-use input::{Filled, Streams};
+use input::Streams;
 use lines::Next;
 use slip_form::Slip;
 use slips::{Finding, Found};
+use std::io;
 use std::rt::Files;
 use trace::{Record, StepOutcome};
 
@@ -41,25 +42,23 @@ struct Walk {
 }
 
 // Puts the rule file's first bytes at the start of the buffer.
-fn read_rule<F: Files>(files: &F, streams: Streams, rule: &mut [u8]) -> Filled
+fn read_rule<F: Files>(files: &F, streams: Streams, rule: &mut [u8]) -> io::Result<usize>
     requires { length rule.old ≡ rule_room }
     ensures { Fills result rule.new }
 {
-    let mut why = None;
-    let a = input::read_rule(files, rule, &mut why);
-    input::complain(a, b"log_slips: rule.rul", why, streams.error);
+    let a = input::read_rule(files, rule);
+    input::complain(a, b"log_slips: rule.rul", streams.error);
     a
 }
 
 // Puts the log's first bytes at the start of the buffer.
-fn read_log(streams: Streams, log: &mut [u8]) -> Filled
+fn read_log(streams: Streams, log: &mut [u8]) -> io::Result<usize>
     requires { length log.old ≡ log_room }
     ensures { Fills result log.new }
 {
     let mut from = streams.input;
-    let mut why = None;
-    let a = input::fill(&mut from, log, &mut why);
-    input::complain(a, b"log_slips: standard input", why, streams.error);
+    let a = input::fill(&mut from, log);
+    input::complain(a, b"log_slips: standard input", streams.error);
     a
 }
 
@@ -204,32 +203,32 @@ fn make_text(file: &[u8], log: &[u8], text: &mut [u8]) -> usize
 
 // Puts what is to be printed at the start of the text, and answers its length: what is said of the bytes that the two reads brought, or
 // nothing where a read failed.
-fn text_of(rule: &[u8], r: Filled, log: &[u8], l: Filled, text: &mut [u8]) -> usize
+fn text_of(rule: &[u8], r: io::Result<usize>, log: &[u8], l: io::Result<usize>, text: &mut [u8]) -> usize
     requires text_size_in_bounds { text_size ≤ length text.old }
     requires fills { Fills r rule.now × Fills l log.now }
     ensures { Prepared r rule.now l log.now text.new result }
 {
     match r {
-        Filled::Failed => return 0,
-        Filled::Bytes(n) => match l {
-            Filled::Failed => return 0,
-            Filled::Bytes(m) => return make_text(&rule[..n], &log[..m], text),
+        Err(_) => return 0,
+        Ok(n) => match l {
+            Err(_) => return 0,
+            Ok(m) => return make_text(&rule[..n], &log[..m], text),
         },
     }
 }
 
 // Writes a text to standard output, and says on standard error where that fails. It asks that this is the text to be printed of the
 // two buffers and what the two reads answered.
-fn hand_on(streams: Streams, rule: &[u8], r: Filled, log: &[u8], l: Filled, text: &[u8])
+fn hand_on(streams: Streams, rule: &[u8], r: io::Result<usize>, log: &[u8], l: io::Result<usize>, text: &[u8])
     requires { Prints r rule.now l log.now text.now }
 {
     if let Err(e) = streams.output.write_all(text) {
-        input::fail(b"log_slips: standard output", Some(e), streams.error);
+        input::fail(b"log_slips: standard output", e, streams.error);
     }
 }
 
 // Prints what is to be printed of the two buffers and what the two reads answered.
-fn print(streams: Streams, rule: &[u8], r: Filled, log: &[u8], l: Filled)
+fn print(streams: Streams, rule: &[u8], r: io::Result<usize>, log: &[u8], l: io::Result<usize>)
     requires { Fills r rule.now × Fills l log.now }
 {
     let mut text = [0u8; TEXT_ROOM];

@@ -4,8 +4,9 @@ use mathlib.Core.Path.{◌≡◌, ap, sym, ◌∙◌}
 use mathlib.Core.Option.{Option, none, some}
 use mathlib.Core.List.{List, []}
 use lib.ListN.{length, take}
-use Rattle.input.specs.declared.Filled.{Filled}
-use Rattle.input.specs.declared.Filled.TheVariants.{Bytes, Failed}
+use Rattle.std.specs.declared.io.Error.{Error}
+use Rattle.input.specs.Filled.{Filled}
+use Rattle.std.specs.Prelude.{Ok, Err}
 use Rattle.lists.proofs.Cases.{never}
 use Rattle.rules.specs.Limits.{max_file_bytes}
 use Rattle.atoms.specs.Tree.{Tree, size}
@@ -35,10 +36,10 @@ unfolding typed_answer
 answer_length text m e = read_length text (read_text text) m e
 
 module _ (a : Filled) (text : List ℕ) where
-  pub made_nothing : (file : List ℕ) → a ≡ Failed → Answered file_printed refusal_printed text_room a text (Length 0) file
+  pub made_nothing : (file : List ℕ) → (x : Error) → a ≡ Err x → Answered file_printed refusal_printed text_room a text (Length 0) file
   made_nothing file e = answered-nothing file_printed refusal_printed text_room a text file e
 
-  pub made : (n : ℕ) (w : Written) (before after : List ℕ) → a ≡ Bytes n → length before ≡ max_file_bytes → ReadsText (take n text) before w after
+  pub made : (n : ℕ) (w : Written) (before after : List ℕ) → a ≡ Ok n → length before ≡ max_file_bytes → ReadsText (take n text) before w after
       → Answered file_printed refusal_printed text_room a text w after
   unfolding file_printed refusal_printed
   made n w before after e l r =

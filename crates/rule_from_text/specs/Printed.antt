@@ -1,6 +1,6 @@
 -- What the program is to print on its two outputs, of the text that it read.
 use Rattle.std.specs.Prelude.{ℕ, List}
-use Rattle.input.specs.declared.Filled.{Filled}
+use Rattle.input.specs.Filled.{Filled}
 use Rattle.rules.specs.Limits.{max_file_bytes}
 use Rattle.typed.specs.Grammar.{read_text}
 use Rattle.typed_file.specs.Answer.{bytes_of, typed_answer}

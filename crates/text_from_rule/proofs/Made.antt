@@ -4,8 +4,9 @@ use mathlib.Core.Path.{◌≡◌, ap, sym, ◌∙◌}
 use mathlib.Core.List.{List}
 use lib.ListN.{length, take}
 use Rattle.lists.proofs.Cases.{never}
-use Rattle.input.specs.declared.Filled.{Filled}
-use Rattle.input.specs.declared.Filled.TheVariants.{Bytes, Failed}
+use Rattle.std.specs.declared.io.Error.{Error}
+use Rattle.input.specs.Filled.{Filled}
+use Rattle.std.specs.Prelude.{Ok, Err}
 use Rattle.rules.specs.Rules.{rule_of}
 use Rattle.rules.specs.declared.RuleRead.{RuleRead}
 use Rattle.rule_text.specs.Text.{answer_of, bytes_of, text_answer, WritesText}
@@ -26,10 +27,10 @@ unfolding text_answer
 answer_length file m e = read_length file (rule_of file) m e
 
 module _ (a : Filled) (rule : List ℕ) where
-  pub made_nothing : (text : List ℕ) → a ≡ Failed → Answered text_printed refusal_printed rule_room a rule (Length 0) text
+  pub made_nothing : (text : List ℕ) → (x : Error) → a ≡ Err x → Answered text_printed refusal_printed rule_room a rule (Length 0) text
   made_nothing text e = answered-nothing text_printed refusal_printed rule_room a rule text e
 
-  pub made : (n : ℕ) (w : Written) (before after : List ℕ) → a ≡ Bytes n → length before ≡ text_size → WritesText (take n rule) before w after
+  pub made : (n : ℕ) (w : Written) (before after : List ℕ) → a ≡ Ok n → length before ≡ text_size → WritesText (take n rule) before w after
       → Answered text_printed refusal_printed rule_room a rule w after
   unfolding text_printed refusal_printed
   made n w before after e l r =

@@ -1,6 +1,6 @@
 -- What the program is to print on its two outputs, of the rule file that it read.
 use Rattle.std.specs.Prelude.{ℕ, List}
-use Rattle.input.specs.declared.Filled.{Filled}
+use Rattle.input.specs.Filled.{Filled}
 use Rattle.rules.specs.Rules.{rule_of}
 use Rattle.rule_text.specs.Text.{bytes_of, text_answer}
 use Rattle.told.specs.Told.{output_of, error_of, Tells}

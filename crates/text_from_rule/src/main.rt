@@ -10,57 +10,57 @@ ghost use Rattle.input.specs.Filled.{Fills};
 ghost use Rattle.told.specs.Told.{Answered};
 ghost use Rattle.text_from_rule.specs.Printed.{rule_room, text_size, text_printed, refusal_printed, PrintsText, PrintsRefusal};
 
-use input::{Filled, Streams};
+use input::Streams;
 use output::Written;
 use rule_text::TEXT_ROOM;
+use std::io;
 use told::LINE_BYTES;
 
 // One byte more than the longest rule file, so that a longer one is seen to be too long.
 const RULE_ROOM: usize = 600;
 
 // Puts the rule file's first bytes at the start of the buffer.
-fn read_rule(streams: Streams, rule: &mut [u8]) -> Filled
+fn read_rule(streams: Streams, rule: &mut [u8]) -> io::Result<usize>
     requires { length rule.old ≡ rule_room }
     ensures { Fills result rule.new }
 {
     let mut from = streams.input;
-    let mut why = None;
-    let a = input::fill(&mut from, rule, &mut why);
-    input::complain(a, b"text_from_rule: standard input", why, streams.error);
+    let a = input::fill(&mut from, rule);
+    input::complain(a, b"text_from_rule: standard input", streams.error);
     a
 }
 
 // Puts the text of the bytes that the read brought at the start of the buffer, or refuses. Of a failed read it makes a text of no bytes,
 // so that nothing is told of it.
-fn make_text(rule: &[u8], a: Filled, text: &mut [u8]) -> Written
+fn make_text(rule: &[u8], a: io::Result<usize>, text: &mut [u8]) -> Written
     requires { Fills a rule.now × (length text.old ≡ text_size) }
     ensures { Answered text_printed refusal_printed rule_room a rule.now result text.new }
 {
     match a {
-        Filled::Failed => return Written::Length(0),
-        Filled::Bytes(n) => return rule_text::text_from_rule(&rule[..n], text),
+        Err(_) => return Written::Length(0),
+        Ok(n) => return rule_text::text_from_rule(&rule[..n], text),
     }
 }
 
 // Writes a text to standard output, and says on standard error where that fails. It asks that this is the text to be printed of the
 // buffer and what the read answered.
-fn print_text(streams: Streams, rule: &[u8], a: Filled, text: &[u8])
+fn print_text(streams: Streams, rule: &[u8], a: io::Result<usize>, text: &[u8])
     requires { PrintsText a rule.now text.now }
 {
     if let Err(e) = streams.output.write_all(text) {
-        input::fail(b"text_from_rule: standard output", Some(e), streams.error);
+        input::fail(b"text_from_rule: standard output", e, streams.error);
     }
 }
 
 // Writes a refusal's line to standard error. It asks that this is the line to be printed of the buffer and what the read answered.
-fn print_refusal(streams: Streams, rule: &[u8], a: Filled, line: &[u8])
+fn print_refusal(streams: Streams, rule: &[u8], a: io::Result<usize>, line: &[u8])
     requires { PrintsRefusal a rule.now line.now }
 {
     let _ = streams.error.write_all(line);
 }
 
 // Prints what is to be printed of the buffer and what the read answered.
-fn print(streams: Streams, rule: &[u8], a: Filled)
+fn print(streams: Streams, rule: &[u8], a: io::Result<usize>)
     requires { Fills a rule.now }
 {
     let mut text = [0u8; TEXT_ROOM];

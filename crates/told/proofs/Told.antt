@@ -6,9 +6,9 @@ use native.Mathlib.Omega.{arith}
 use lib.ListN.{length, take, drop, length-append}
 use lib.Seq.{length-take-le, take-append_seam}
 use Rattle.input.specs.Counts.{IsPrefixLen}
-use Rattle.input.specs.Filled.{Fills}
-use Rattle.input.specs.declared.Filled.{Filled}
-use Rattle.input.specs.declared.Filled.TheVariants.{Bytes, Failed}
+use Rattle.std.specs.declared.io.Error.{Error}
+use Rattle.input.specs.Filled.{Filled, Fills}
+use Rattle.std.specs.Prelude.{Ok, Err}
 use Rattle.input.proofs.Answers.{counted}
 use Rattle.output.specs.Written.{left_by}
 use Rattle.output.specs.declared.Written.{Written}
@@ -45,34 +45,34 @@ error-put w c line line' n e x =
     }
 
 -- ── what is told of a read ──
-pub read_count : (a : Filled) (n : ℕ) (buffer : List ℕ) → a ≡ Bytes n → Fills a buffer → n ≡ length (take n buffer)
+pub read_count : (a : Filled) (n : ℕ) (buffer : List ℕ) → a ≡ Ok n → Fills a buffer → n ≡ length (take n buffer)
 read_count a n buffer e f = (counted a n buffer e f).1
 
 -- how many bytes an answer counts
 abbrev bytes_of : Filled → ℕ
-bytes_of (Bytes n) = n
-bytes_of Failed = 0
+bytes_of (Ok n) = n
+bytes_of (Err e) = 0
 
-not_both : (a : Filled) (n : ℕ) → a ≡ Bytes n → a ≡ Failed → ⊥
-not_both a n e f = let q : Bytes n ≡ Failed = sym e ∙ f in let z : ◌≡◌ {A = ℕ} 0 1 = cc in omega arith
+not_both : (a : Filled) (n : ℕ) (x : Error) → a ≡ Ok n → a ≡ Err x → ⊥
+not_both a n x e f = let q : ◌≡◌ {A = Filled} (Ok n) (Err x) = sym e ∙ f in let z : ◌≡◌ {A = ℕ} 0 1 = cc in omega arith
 
 module _ (f : List ℕ → List ℕ) (room : ℕ) (a : Filled) (buffer : List ℕ) where
-  pub tells_nothing : a ≡ Failed → Tells f room a buffer []
-  tells_nothing e =
+  pub tells_nothing : (x : Error) → a ≡ Err x → Tells f room a buffer []
+  tells_nothing x e =
       record {
-        read = λ n p. absurd (not_both a n p e);
-        whole = λ n p. absurd (not_both a n p e);
-        failed = λ p. refl;
+        read = λ n p. absurd (not_both a n x p e);
+        whole = λ n p. absurd (not_both a n x p e);
+        failed = λ y p. refl;
       }
 
   -- where the first bytes decide what is told
-  pub tells_read : ((input : List ℕ) → f (take room input) ≡ f input) → (n : ℕ) → a ≡ Bytes n → (s : List ℕ) → s ≡ f (take n buffer) → Tells f room a buffer s
+  pub tells_read : ((input : List ℕ) → f (take room input) ≡ f input) → (n : ℕ) → a ≡ Ok n → (s : List ℕ) → s ≡ f (take n buffer) → Tells f room a buffer s
   tells_read cut n e s q =
-      let same : (m : ℕ) → a ≡ Bytes m → s ≡ f (take m buffer) = λ m p. q ∙ ap (λ (x : Filled). f (take (bytes_of x) buffer)) (sym e ∙ p) in
+      let same : (m : ℕ) → a ≡ Ok m → s ≡ f (take m buffer) = λ m p. q ∙ ap (λ (x : Filled). f (take (bytes_of x) buffer)) (sym e ∙ p) in
       record {
         read = same;
         whole = λ m p input h. same m p ∙ (ap f h ∙ cut input);
-        failed = λ p. absurd (not_both a n e p);
+        failed = λ y p. absurd (not_both a n y e p);
       }
 
 -- ── what is told of a call ──
@@ -87,17 +87,17 @@ module _ (bytes before : List ℕ) where
   bytes_first (Refused c) l = ((omega arith, refl), refl)
 
 module _ (f g : List ℕ → List ℕ) (room : ℕ) (a : Filled) (buffer : List ℕ) where
-  pub answered-nothing : (out : List ℕ) → a ≡ Failed → Answered f g room a buffer (Length 0) out
-  answered-nothing out e =
+  pub answered-nothing : (out : List ℕ) (x : Error) → a ≡ Err x → Answered f g room a buffer (Length 0) out
+  answered-nothing out x e =
       record {
         counts = (omega arith, refl);
-        output = tells_nothing f room a buffer e;
-        error = tells_nothing g room a buffer e;
+        output = tells_nothing f room a buffer x e;
+        error = tells_nothing g room a buffer x e;
       }
 
   -- the call is made on the bytes that were read, and `f` and `g` are what its definition says of them
   pub answered : ((input : List ℕ) → f (take room input) ≡ f input) → ((input : List ℕ) → g (take room input) ≡ g input)
-      → (n : ℕ) → a ≡ Bytes n → (w : Written) (bytes before after : List ℕ) → after ≡ left_by w bytes before → ((m : ℕ) → w ≡ Length m → m ≡ length bytes)
+      → (n : ℕ) → a ≡ Ok n → (w : Written) (bytes before after : List ℕ) → after ≡ left_by w bytes before → ((m : ℕ) → w ≡ Length m → m ≡ length bytes)
       → output_of w bytes ≡ f (take n buffer) → error_of w ≡ g (take n buffer) → Answered f g room a buffer w after
   answered f-cut g-cut n e w bytes before after left l p q =
       let x = bytes_first bytes before w l in

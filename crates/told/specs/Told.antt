@@ -1,8 +1,9 @@
 -- What a program tells of a call that writes to a lent buffer, or refuses.
 use Rattle.std.specs.Prelude.{ℕ, ◌≡◌, List, [], ◌∷◌, ◌++◌, take}
 use Rattle.input.specs.Counts.{IsPrefixLen}
-use Rattle.input.specs.declared.Filled.{Filled}
-use Rattle.input.specs.declared.Filled.TheVariants.{Bytes, Failed}
+use Rattle.std.specs.declared.io.Error.{Error}
+use Rattle.input.specs.Filled.{Filled}
+use Rattle.std.specs.Prelude.{Ok, Err}
 use Rattle.output.specs.declared.Written.{Written}
 use Rattle.output.specs.declared.Written.TheVariants.{Length, Refused}
 use Rattle.text_pieces.specs.Pieces.{decimal}
@@ -38,10 +39,10 @@ pub record PutsError (w : Written) (line : List ℕ) (n : ℕ) : Type 0 where
 -- What is told is s: what `f` says of the n bytes that the read brought, or nothing where the read failed. `room` is how many bytes are
 -- read at most.
 pub record Tells (f : List ℕ → List ℕ) (room : ℕ) (a : Filled) (buffer s : List ℕ) : Type 0 where
-  pub read : (n : ℕ) → a ≡ Bytes n → s ≡ f (take n buffer)
+  pub read : (n : ℕ) → a ≡ Ok n → s ≡ f (take n buffer)
   -- these are the first bytes of an input: what is told is what `f` says of the whole input
-  pub whole : (n : ℕ) → a ≡ Bytes n → (input : List ℕ) → take n buffer ≡ take room input → s ≡ f input
-  pub failed : a ≡ Failed → s ≡ []
+  pub whole : (n : ℕ) → a ≡ Ok n → (input : List ℕ) → take n buffer ≡ take room input → s ≡ f input
+  pub failed : (x : Error) → a ≡ Err x → s ≡ []
 
 -- A call answered w and left its buffer as `out`: the bytes at its start are what standard output is to be told, and the refusal is what
 -- standard error is to be told.

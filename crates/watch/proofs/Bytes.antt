@@ -10,7 +10,8 @@ use lib.ListN.{length, set, take, length-set, length-append}
 use lib.Seq.{take-suc-set, length-take-le}
 use borrow.Author.Tests.{eq-eqb, ne_eqb, lt-ltb}
 use Rattle.input.specs.Counts.{IsPrefixLen}
-use Rattle.input.specs.declared.Filled.{Filled}
+use Rattle.std.specs.Prelude.{Ok}
+use Rattle.input.specs.Filled.{Filled}
 use Rattle.input.proofs.Answers.{counts-within}
 use Rattle.lists.specs.Lists.{has?}
 use Rattle.lists.proofs.Cases.{either_eq, no_both}
@@ -60,7 +61,7 @@ module _ (n : ℕ) (xs : List ℕ) (b : ℕ) (h : n < length xs) where
     pub byte_free : (b ≡ 10 → ⊥) → has? 10 (take (n + 1) (set xs n b)) ≡ false
     byte_free no_lf = ap (has? 10) stored ∙ more_free (take n xs) b f no_lf
 
-    pub byte_ends : b ≡ 10 → length xs ≤ 40 → LineRead (Filled.Bytes (n + 1)) (set xs n b)
+    pub byte_ends : b ≡ 10 → length xs ≤ 40 → LineRead (Ok (n + 1)) (set xs n b)
     byte_ends e few = (
       counts-within (n + 1) (set xs n b) byte_within,
       subst OneLine (sym stored) (inl (more-ends (take n xs) b f (omega (arith, length-take-le n xs (let k : n ≤ length xs = omega arith in k))) e)),
@@ -70,11 +71,11 @@ pub byte_few : (n : ℕ) (xs : List ℕ) (b m : ℕ) → length xs ≤ m → len
 byte_few n xs b m h = omega (arith, length-set xs n b)
 
 -- without an LF, to the end of the input or of the buffer
-pub free_read : (n : ℕ) (xs : List ℕ) → n ≤ length xs → has? 10 (take n xs) ≡ false → LineRead (Filled.Bytes n) xs
+pub free_read : (n : ℕ) (xs : List ℕ) → n ≤ length xs → has? 10 (take n xs) ≡ false → LineRead (Ok n) xs
 free_read n xs h f = (counts-within n xs h, inr f)
 
-pub all_read : (n : ℕ) (xs : List ℕ) → n ≤ length xs → length xs ≤ n → has? 10 (take n xs) ≡ false → LineRead (Filled.Bytes (length xs)) xs
-all_read n xs h l f = subst (λ (k : ℕ). LineRead (Filled.Bytes k) xs) (let e : n ≡ length xs = omega arith in e) (free_read n xs h f)
+pub all_read : (n : ℕ) (xs : List ℕ) → n ≤ length xs → length xs ≤ n → has? 10 (take n xs) ≡ false → LineRead (Ok (length xs)) xs
+all_read n xs h l f = subst (λ (k : ℕ). LineRead (Ok k) xs) (let e : n ≡ length xs = omega arith in e) (free_read n xs h f)
 
-pub line_counted : (a : Filled) (n : ℕ) (xs : List ℕ) → a ≡ Filled.Bytes n → LineRead a xs → IsPrefixLen n xs
+pub line_counted : (a : Filled) (n : ℕ) (xs : List ℕ) → a ≡ Ok n → LineRead a xs → IsPrefixLen n xs
 line_counted a n xs e f = (subst (λ (x : Filled). LineRead x xs) e f).0

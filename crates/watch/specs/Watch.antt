@@ -1,7 +1,7 @@
 -- Watching a log: its lines are answered one by one, with the text that the check prints for them.
-use Rattle.std.specs.Prelude.{ℕ, ◌+◌, ◌≤◌, ◌≡◌, Bool, true, false, List, [], ◌++◌, length, take, ◌⊎◌}
+use Rattle.std.specs.Prelude.{ℕ, ◌+◌, ◌≤◌, ◌≡◌, Bool, true, false, List, [], ◌++◌, length, take, ◌⊎◌, Ok, Err}
 use Rattle.input.specs.Counts.{IsPrefixLen}
-use Rattle.input.specs.declared.Filled.{Filled}
+use Rattle.input.specs.Filled.{Filled}
 use Rattle.lists.specs.Lists.{has?}
 use Rattle.lines.specs.declared.Next.TheVariants as Next
 use Rattle.lines.specs.Log.{lines_of, next_line}
@@ -60,8 +60,8 @@ abbrev pub OneLine : List ℕ → Type 0
 OneLine s = ((rest : List ℕ) → next_line (s ++ rest) 0 ≡ Next.Line 0 (length s)) ⊎ (has? 10 s ≡ false)
 
 abbrev pub LineRead : Filled → List ℕ → Type 0
-LineRead (Filled.Bytes n) xs = IsPrefixLen n xs × OneLine (take n xs)
-LineRead Filled.Failed xs = Unit {0}
+LineRead (Ok n) xs = IsPrefixLen n xs × OneLine (take n xs)
+LineRead (Err e) xs = Unit {0}
 
 -- the line is accepted: what is printed of it, what is left, and how the report of the input goes on, whatever bytes come
 -- after it

@@ -15,7 +15,7 @@ ghost use Rattle.text_pieces.specs.Writing.{WritesFew};
 ghost use Rattle.report.specs.RecordText.{Printable};
 ghost use Rattle.watch.specs.Watch.{LineRead, outcome_text, way_of, Watching, AnswersLine, AnswersEnd, AnswersRule, Follows, Onward, on?};
 
-use input::{Filled, Streams};
+use input::Streams;
 use pairs::{HALF_BYTES, Layout};
 use rules::{Rule, RuleRead};
 use single::Outcome;
@@ -57,48 +57,32 @@ struct Answered {
     size: usize,
 }
 
-// One byte of the input.
-#[derive(Clone, Copy)]
-enum Byte {
-    Is(u8),
-    End,
-    Failed,
-}
-
-fn read_byte(from: Stdin, why: &mut Option<io::Error>) -> Byte {
+// One byte of the input; none at its end.
+fn read_byte(from: Stdin) -> io::Result<Option<u8>> {
     let mut from = from;
     let mut one = [0u8; 1];
-    let a = input::fill(&mut from, &mut one, why);
-    match a {
-        Filled::Failed => return Byte::Failed,
-        Filled::Bytes(n) => {
-            if n == 0 {
-                return Byte::End;
-            }
-            return Byte::Is(one[0]);
-        }
+    let n = input::fill(&mut from, &mut one)?;
+    if n == 0 {
+        return Ok(None);
     }
+    Ok(Some(one[0]))
 }
 
 // Puts the bytes up to the next LF at the start of the buffer, or as many as it has room for, or those before the end of the input.
-fn read_line(from: Stdin, line: &mut [u8], why: &mut Option<io::Error>) -> Filled
+fn read_line(from: Stdin, line: &mut [u8]) -> io::Result<usize>
     requires { length line.old ≤ 40 }
     ensures { LineRead result line.new }
 {
     for (n, place) in line.iter_mut().enumerate() {
-        let byte = read_byte(from, why);
-        match byte {
-            Byte::Failed => return Filled::Failed,
-            Byte::End => return Filled::Bytes(n),
-            Byte::Is(b) => {
-                *place = b;
-                if b == b'\n' {
-                    return Filled::Bytes(n + 1);
-                }
-            }
+        let Some(b) = read_byte(from)? else {
+            return Ok(n);
+        };
+        *place = b;
+        if b == b'\n' {
+            return Ok(n + 1);
         }
     }
-    Filled::Bytes(line.len())
+    Ok(line.len())
 }
 
 // The text of an outcome, where so many lines are accepted after it.
@@ -153,7 +137,7 @@ fn way_of(o: Outcome) -> Way
 // Writes a text to standard output, or says on standard error that this fails.
 fn hand_on(streams: Streams, text: &[u8]) -> bool {
     if let Err(e) = streams.output.write_all(text) {
-        input::fail(b"watch: standard output", Some(e), streams.error);
+        input::fail(b"watch: standard output", e, streams.error);
         return false;
     }
     true
@@ -197,20 +181,19 @@ fn watch_line(streams: Streams, file: &[u8], s: Watch, work: &mut [u8]) -> Watch
     ensures { Watching file.now result.state result.tally work.new × Onward s.tally.lines result.tally result.way }
 {
     let mut line = [0u8; LINE_ROOM];
-    let mut why = None;
-    let a = read_line(streams.input, &mut line, &mut why);
-    input::complain(a, b"watch: standard input", why, streams.error);
+    let a = read_line(streams.input, &mut line);
+    input::complain(a, b"watch: standard input", streams.error);
     let state = s.state;
     let tally = s.tally;
     match a {
-        Filled::Failed => {
+        Err(_) => {
             return Watch {
                 state: state,
                 tally: tally,
                 way: Way::Stop,
             };
         }
-        Filled::Bytes(n) => {
+        Ok(n) => {
             if n == 0 {
                 return Watch {
                     state: state,
@@ -333,12 +316,11 @@ fn main(rt: HostRuntime) {
         error: rt.stderr(),
     };
     let mut rule = [0u8; RULE_ROOM];
-    let mut why = None;
-    let a = input::read_rule(&rt, &mut rule, &mut why);
-    input::complain(a, b"watch: rule.rul", why, streams.error);
+    let a = input::read_rule(&rt, &mut rule);
+    input::complain(a, b"watch: rule.rul", streams.error);
     match a {
-        Filled::Failed => return,
-        Filled::Bytes(n) => {
+        Err(_) => return,
+        Ok(n) => {
             watch_log(streams, &rule[..n]);
             return;
         }

@@ -3,11 +3,11 @@ use Rattle.told.proofs.Told.{read_count}
 use Rattle.text_from_rule.proofs.Made.{made_nothing, made}
 use Rattle.text_from_rule.proofs.make_text.Goals as goal
 
-pub returns-in-Failed : goal.returns-in-Failed
-returns-in-Failed c = search made_nothing
+pub returns-in-Err : goal.returns-in-Err
+returns-in-Err c = search made_nothing
 
 pub slice_bounds-text_from_rule-end : goal.slice_bounds-text_from_rule-end
 slice_bounds-text_from_rule-end c = search read_count
 
-pub returns-in-Bytes : goal.returns-in-Bytes
-returns-in-Bytes c = search made
+pub returns-in-Ok : goal.returns-in-Ok
+returns-in-Ok c = search made

@@ -4,8 +4,8 @@ use Rattle.std.proofs.lemmas.List.{set-get_or}
 use Rattle.watch.proofs.Bytes.{byte_free, byte_ends, byte_few, free_read, all_read}
 use Rattle.watch.proofs.read_line.Goals as goal
 
-pub returns-in-End : goal.returns-in-End
-returns-in-End c = rw set-get_or (search (free_read, rules))
+pub returns-in_default : goal.returns-in_default
+returns-in_default c = rw set-get_or (search (free_read, rules))
 
 pub returns-then-b-eq10 : goal.returns-then-b-eq10
 returns-then-b-eq10 c = search (byte_ends, rules)

@@ -7,6 +7,9 @@ use lib.Dec.{eqb}
 use native.Mathlib.Omega.{arith}
 use lib.ListN.{length, get_or, set, length-set, length-map, get_or-map, get_or-eq_default}
 use lib.Seq.{ext_get_or, get_or-set_same, get_or-set_other, set_out}
+use Rattle.std.specs.List.{slice_get}
+use Rattle.std.specs.Prelude.{Some}
+use Rattle.std.proofs.lemmas.Option.{get_or_from_slice_get}
 use Rattle.lists.proofs.Cases.{either_eq}
 use Rattle.instants.specs.declared.InstantNo.{InstantNo}
 use Rattle.instants.specs.Instants.{instant_no, instant_at, instant_after}
@@ -23,27 +26,28 @@ unfolding instants_in
 dated_in_lem v l j = set-map instant_no v l (instant_after (instants_in v) l j)
 
 -- the instant of a line, read from the places of a record
-pub at_past : (v : List InstantNo) (l : ℕ) → length v ≡ 256 → (l ≡ 0 → ⊥) → 256 ≤ l - 1 → 0 ≡ instant_at v l
-at_past v zero e n h = absurd (n refl)
-at_past v (suc k) e n h = sym (ap (λ (x : InstantNo). x.0) (get_or-eq_default v (instant_no 0) (omega arith)))
+pub at_none : (v : List InstantNo) (l : ℕ) → (0 < l → length v ≤ l - 1) → 0 ≡ instant_at v l
+at_none v zero h = refl
+at_none v (suc k) h = let past : length v ≤ suc k - 1 = h (omega arith) in sym (ap (λ (x : InstantNo). x.0) (get_or-eq_default v (instant_no 0) (omega arith)))
 
-pub at_read : (v : List InstantNo) (l : ℕ) (x : InstantNo) → (l ≡ 0 → ⊥) → x ≡ get_or v (l - 1) (instant_no 0) → x.0 ≡ instant_at v l
+at_read : (v : List InstantNo) (l : ℕ) (x : InstantNo) → (l ≡ 0 → ⊥) → x ≡ get_or v (l - 1) (instant_no 0) → x.0 ≡ instant_at v l
 at_read v zero x n e = absurd (n refl)
 at_read v (suc k) x n e = let z : suc k - 1 ≡ k = omega arith in ap (λ (y : InstantNo). y.0) e ∙ ap (λ (j : ℕ). (get_or v j (instant_no 0)).0) z
 
+pub at_some : (v : List InstantNo) (l : ℕ) (x : InstantNo) → 0 < l → slice_get v (l - 1) ≡ Some x → x.0 ≡ instant_at v l
+at_some v l x h e = at_read v l x (λ z. omega arith) (sym (get_or_from_slice_get v (l - 1) x (instant_no 0) e))
+
 -- and from a column
-pub instant_none : (v : List ℕ) (l : ℕ) → l ≡ 0 → 0 ≡ instant_at (instants_in v) l
-instant_none v l e = rw e refl
-
-pub instant_past : (v : List ℕ) (l : ℕ) → length v ≡ 256 → (l ≡ 0 → ⊥) → 256 ≤ l - 1 → 0 ≡ instant_at (instants_in v) l
-unfolding instants_in
-instant_past v l e n h = at_past (instants_in v) l (length-map v instant_no ∙ e) n h
-
-pub instant_read : (v : List ℕ) (l : ℕ) → (l ≡ 0 → ⊥) → get_or v (l - 1) 0 ≡ instant_at (instants_in v) l
+instant_read : (v : List ℕ) (l : ℕ) → (l ≡ 0 → ⊥) → get_or v (l - 1) 0 ≡ instant_at (instants_in v) l
 unfolding instants_in
 instant_read v l n = at_read (instants_in v) l (instant_no (get_or v (l - 1) 0)) n (sym (get_or-map instant_no v (l - 1) 0))
 
-pub ruleset instants-read = (instant_none, instant_past, instant_read)
+pub column_some : (v : List ℕ) (l x : ℕ) → 0 < l → slice_get v (l - 1) ≡ Some x → x ≡ instant_at (instants_in v) l
+column_some v l x h e = sym (get_or_from_slice_get v (l - 1) x 0 e) ∙ instant_read v l (λ z. omega arith)
+
+pub column_none : (v : List ℕ) (l : ℕ) → (0 < l → length v ≤ l - 1) → 0 ≡ instant_at (instants_in v) l
+unfolding instants_in
+column_none v l h = at_none (instants_in v) l (λ p. omega (arith, h p, length-map v instant_no))
 
 -- it is put into the column, or there is no place for it
 pub dated_here : (v : List ℕ) (l : ℕ) (j : Bool) (i n : ℕ) → i ≡ instant_at (instants_in v) l → n ≡ cond j i (i + 1) → set v l n ≡ dated_in v l j

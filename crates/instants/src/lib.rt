@@ -5,7 +5,7 @@
 // `same_instants` compares two columns.
 #![tactic(auto)]
 
-ghost use Rattle.std.specs.Prelude.{◌≡◌, ◌&&◌, cond, eqb, ◌+◌, ◌<◌, length};
+ghost use Rattle.std.specs.Prelude.{◌≡◌, ◌&&◌, cond, eqb, ◌+◌, ◌-◌, ◌<◌, ◌≤◌, length, Some, IfSome, IfNone, slice_get};
 ghost use Rattle.lists.specs.Limits.{max_lines, max16};
 ghost use Rattle.lists.specs.Tells.{Tells};
 ghost use Rattle.instants.specs.Instants.{instant_at};
@@ -17,19 +17,25 @@ use lists::MAX_LINES;
 #[derive(Clone, Copy)]
 pub struct InstantNo(pub u16);
 
+// What a list has for line `l`, counted from 1.
+fn of_line<T: Copy>(list: &[T], l: u16) -> Option<T>
+    ensures found { IfSome result (λ x. (0 < l) × (slice_get list.now (l - 1) ≡ Some x)) }
+    ensures missing { IfNone result (0 < l → length list.now ≤ l - 1) }
+{
+    if l == 0 {
+        return None;
+    }
+    list.get((l - 1) as usize).copied()
+}
+
 // The instant of line `l`: 0 for no line.
 pub fn instant_of(instants: [InstantNo; MAX_LINES], l: u16) -> u16
     ensures { result ≡ instant_at instants l }
 {
-    if l == 0 {
-        return 0;
+    match of_line(&instants, l) {
+        Some(x) => x.0,
+        None => 0,
     }
-    let k = (l - 1) as usize;
-    if MAX_LINES <= k {
-        return 0;
-    }
-    let x = instants[k];
-    x.0
 }
 
 // The same, in a column.
@@ -37,14 +43,10 @@ pub fn instant_in(instants: &[u16], l: u16) -> u16
     requires { length instants.now ≡ max_lines }
     ensures { result ≡ instant_at (instants_in instants.now) l }
 {
-    if l == 0 {
-        return 0;
+    match of_line(instants, l) {
+        Some(x) => x,
+        None => 0,
     }
-    let k = (l - 1) as usize;
-    if MAX_LINES <= k {
-        return 0;
-    }
-    instants[k]
 }
 
 // Whether a line after `lines` lines would join a line and there is none.

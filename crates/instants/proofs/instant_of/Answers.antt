@@ -1,9 +1,9 @@
-use Rattle.lists.proofs.Lists.{unmapped}
-use Rattle.instants.proofs.Column.{at_past, at_read}
+use borrow.Author.Rules.{rules}
+use Rattle.instants.proofs.Column.{at_some, at_none}
 use Rattle.instants.proofs.instant_of.Goals as goal
 
-pub returns-then-k-ge-MAX_LINES : goal.returns-then-k-ge-MAX_LINES
-returns-then-k-ge-MAX_LINES c = search (at_past, unmapped)
+pub returns-in-Some : goal.returns-in-Some
+returns-in-Some c = search (rules, at_some)
 
-pub returns : goal.returns
-returns c = search at_read
+pub returns-in-None : goal.returns-in-None
+returns-in-None c = search (rules, at_none)

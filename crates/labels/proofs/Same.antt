@@ -116,14 +116,6 @@ module _ (bs : List ℕ) (n i m : ℕ) (v l : Bool) where
   unfolding sound_from
   sound_end e long h = let h' : length bs ≤ i = omega arith in sym (e ∙ rw (drop_of_length-le bs h'))
 
-pub byte_in : (i : Bool) (b : ℕ) (v : Bool) → v ≡ letter? b → i ≡ true → v ≡ byte_sound i b
-byte_in true b v e t = e
-byte_in false b v e t = no_both (sym t)
-
-pub byte_past : (i : Bool) (b : ℕ) → i ≡ false → eqb b 0 ≡ byte_sound i b
-byte_past true b t = no_both t
-byte_past false b t = refl
-
 pub sound_start : (x : Label) → x.length ≤ 24 → sound? x ≡ sound_from (x.length - 0) x.bytes
 unfolding sound?
 sound_start x h = let z : x.length ≡ x.length - 0 = omega arith in simp (le-leb _ _ h) (ap (λ (n : ℕ). sound_from n x.bytes) z)

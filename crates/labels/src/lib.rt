@@ -29,12 +29,14 @@ pub const LABEL_PLACES: usize = 128;
 pub struct LabelNo(pub u8);
 
 // The first `length` bytes are the label's, the others 0. Length 0: no label.
+// Kept: fixed memory, with no heap: a label is an array and a length, as `label_of` and `sound?` say it.
 #[derive(Clone, Copy, PartialEq, Eq)]
 pub struct Label {
     pub bytes: [u8; MAX_LABEL_BYTES],
     pub length: u8,
 }
 
+// Kept: fixed memory, with no heap: the labels are an array and a count, as `table_of` says it.
 // The first `count` labels are the table's. A place holds the number of the label that stands there, 0 where it is empty.
 #[derive(Clone, Copy, PartialEq, Eq)]
 pub struct LabelTable {
@@ -55,7 +57,7 @@ pub enum Slot {
 pub fn times_prime(h: u32) -> u32
     ensures { result ≡ h * 16777619 % 4294967296 }
 {
-    ((h as u64) * 16777619 % 4294967296) as u32
+    h.wrapping_mul(16777619)
 }
 
 // The hash after one byte more.
@@ -139,10 +141,7 @@ pub fn label_from(bytes: &[u8]) -> Label
 fn byte_sound(inside: bool, b: u8) -> bool
     ensures { result ≡ byte_sound inside b }
 {
-    if inside {
-        return label_byte(b);
-    }
-    b == 0
+    if inside { label_byte(b) } else { b == 0 }
 }
 
 // Whether a label handed in has the bytes of a label to its length, capitals only, and zeros behind.

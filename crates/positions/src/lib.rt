@@ -11,6 +11,7 @@ ghost use Rattle.lists.specs.Tells.{Tells};
 ghost use Rattle.positions.specs.Comparison.{sign_of, signs_of, CommonMoment, AllFit, one_below, rank_of};
 
 // The signs of two positions: the first is below the second, the same, or above it.
+// Kept: `signs_of`, which `signs_narrow` and `signs_wide` promise, is in the numbers 0, 1 and 2 (`sign_of`).
 pub const BELOW: u8 = 0;
 
 pub const SAME: u8 = 1;
@@ -65,10 +66,7 @@ pub fn signs_narrow(start_a: u16, finish_a: u16, start_b: u16, finish_b: u16) ->
 fn one_below(q: u64, p: u64) -> u16
     ensures { result ≡ one_below q p }
 {
-    if q < p {
-        return 1;
-    }
-    0
+    u16::from(q < p)
 }
 
 // How many of four positions are below p.

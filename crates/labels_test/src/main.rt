@@ -20,6 +20,8 @@
 //   p WORD         the same, and the table has the word's label then
 #![tactic(auto)]
 
+ghost use Rattle.labels.specs.Search.{Readable};
+
 mod show;
 mod table;
 
@@ -61,15 +63,13 @@ fn label_after(out: Stdout, x: Label, kind: u8, text: &[u8]) -> Label {
 fn run(out: Stdout, input: &[u8]) {
     let mut t = table::empty();
     let mut x = labels::no_label();
-    let mut at: usize = 0;
-    while at < input.len() {
-        let c = test_cases::case_at(input, at);
-        let start = c.start;
-        let end = c.end;
-        x = label_after(out, x, c.kind, &input[start..end]);
-        t = table::after(out, t, c.kind, &input[start..end]);
-        at = c.next;
-    }
+    test_cases::each_case(input, |kind, text|
+        requires { Readable t }
+        ensures { Readable t.exit }
+    {
+        x = label_after(out, x, kind, text);
+        t = table::after(out, t, kind, text);
+    });
 }
 
 fn main(rt: HostRuntime) {

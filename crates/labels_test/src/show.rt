@@ -21,10 +21,8 @@ fn dotted(b: u8) -> u8 {
 }
 
 fn dotted_text(out: Stdout, bytes: &[u8]) {
-    let mut i: usize = 0;
-    while i < bytes.len() {
-        test_text::write_byte(out, dotted(bytes[i]));
-        i += 1;
+    for b in bytes {
+        test_text::write_byte(out, dotted(*b));
     }
 }
 

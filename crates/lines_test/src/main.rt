@@ -96,18 +96,13 @@ fn show(out: Stdout, kind: u8, text: &[u8]) {
 fn run(out: Stdout, input: &[u8], log: &mut [u8]) {
     let mut m: usize = 0;
     let mut place: usize = 0;
-    let mut at: usize = 0;
-    while at < input.len() {
-        let c = test_cases::case_at(input, at);
-        let start = c.start;
-        let end = c.end;
-        show(out, c.kind, &input[start..end]);
-        m = length(m, c.kind, &input[start..end], log);
+    test_cases::each_case(input, |kind, text| {
+        show(out, kind, text);
+        m = length(m, kind, text, log);
         if m <= log.len() {
-            place = moved(out, place, c.kind, &input[start..end], &log[0..m]);
+            place = moved(out, place, kind, text, &log[0..m]);
         }
-        at = c.next;
-    }
+    });
 }
 
 fn main(rt: HostRuntime) {

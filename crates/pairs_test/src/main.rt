@@ -42,16 +42,11 @@ fn run(out: Stdout, input: &[u8], work: &mut [u8]) {
     let mut l = Layout::Square;
     let mut r = trace::no_lines();
     let mut n: usize = 0;
-    let mut at: usize = 0;
-    while at < input.len() {
-        let c = test_cases::case_at(input, at);
-        let start = c.start;
-        let end = c.end;
-        l = area::layout(l, c.kind, &input[start..end]);
-        n = area::sized(n, c.kind, &input[start..end], work);
-        r = case_in(out, l, r, c.kind, &input[start..end], work, n);
-        at = c.next;
-    }
+    test_cases::each_case(input, |kind, text| {
+        l = area::layout(l, kind, text);
+        n = area::sized(n, kind, text, work);
+        r = case_in(out, l, r, kind, text, work, n);
+    });
 }
 
 fn main(rt: HostRuntime) {

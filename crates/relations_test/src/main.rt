@@ -22,15 +22,10 @@ use std::io::Stdout;
 
 fn run(out: Stdout, input: &[u8]) {
     let mut r = trace::no_lines();
-    let mut at: usize = 0;
-    while at < input.len() {
-        let c = test_cases::case_at(input, at);
-        let start = c.start;
-        let end = c.end;
-        sets::case(out, c.kind, &input[start..end]);
-        r = runs::case(out, r, c.kind, &input[start..end]);
-        at = c.next;
-    }
+    test_cases::each_case(input, |kind, text| {
+        sets::case(out, kind, text);
+        r = runs::case(out, r, kind, text);
+    });
 }
 
 fn main(rt: HostRuntime) {

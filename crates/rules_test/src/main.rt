@@ -46,14 +46,9 @@ fn after(out: Stdout, file: &mut [u8], n: usize, kind: u8, text: &[u8]) -> usize
 
 fn run(out: Stdout, input: &[u8], file: &mut [u8]) {
     let mut n: usize = 0;
-    let mut at: usize = 0;
-    while at < input.len() {
-        let c = test_cases::case_at(input, at);
-        let start = c.start;
-        let end = c.end;
-        n = after(out, file, n, c.kind, &input[start..end]);
-        at = c.next;
-    }
+    test_cases::each_case(input, |kind, text| {
+        n = after(out, file, n, kind, text);
+    });
 }
 
 fn main(rt: HostRuntime) {

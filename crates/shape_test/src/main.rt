@@ -21,10 +21,8 @@ fn write_node(out: Stdout, n: usize, mask: u8, height: u8) {
 fn write_nodes(out: Stdout, count: usize, masks: [u8; MAX_NODES], heights: [u8; MAX_NODES])
     requires { count ≤ 64 }
 {
-    let mut n: usize = 0;
-    while n < count {
+    for n in 0..count {
         write_node(out, n, masks[n], heights[n]);
-        n += 1;
     }
 }
 

@@ -108,44 +108,9 @@ pub fn changed(r: Record, kind: u8, text: &[u8]) -> Record {
     }
 }
 
-// Whether two runs have the same four numbers.
-fn same_run(a: Run, b: Run) -> bool {
-    if a.id != b.id {
-        return false;
-    }
-    if a.begin.0 != b.begin.0 {
-        return false;
-    }
-    if a.end.0 != b.end.0 {
-        return false;
-    }
-    a.label.0 == b.label.0
-}
-
-// Whether all 128 runs of two tables are the same, and their counts.
-fn same_runs(a: RunTable, b: RunTable) -> bool {
-    let mut same = a.count == b.count;
-    let mut i: usize = 0;
-    while i < 128 {
-        let x = a.list[i];
-        let y = b.list[i];
-        if !same_run(x, y) {
-            same = false;
-        }
-        i += 1;
-    }
-    same
-}
-
 // Whether two records are the same in each run, label, label place and count, used or not.
 pub fn same_record(a: Record, b: Record) -> bool {
-    if a.lines.0 != b.lines.0 {
-        return false;
-    }
-    if !same_runs(a.runs, b.runs) {
-        return false;
-    }
-    labels::same_table(a.labels, b.labels)
+    a == b
 }
 
 // Writes the counts of lines, runs and labels.

@@ -61,8 +61,7 @@ fn write_outcome(out: Stdout, o: Result<RunNo, Refusal>) {
 pub fn read_from(out: Stdout, r: Record, log: &[u8], kind: u8) -> Record {
     let mut q = r;
     let mut place: usize = 0;
-    let mut left: usize = 256;
-    while 0 < left {
+    for _ in 0..256 {
         let n = lines::next_line(log, place);
         if n.is_none() {
             return q;
@@ -79,7 +78,6 @@ pub fn read_from(out: Stdout, r: Record, log: &[u8], kind: u8) -> Record {
             }
         }
         place = lines::place_after(n, place);
-        left -= 1;
     }
     q
 }

@@ -40,8 +40,7 @@ pub fn show_log(out: Stdout, file: &[u8], x: Rule, log: &[u8])
     let mut r = trace::no_lines();
     write_last(out, file, x, r);
     let mut place: usize = 0;
-    let mut left: usize = 256;
-    while 0 < left {
+    for _ in 0..256 {
         let n = lines::next_line(log, place);
         if n.is_none() {
             return;
@@ -53,6 +52,5 @@ pub fn show_log(out: Stdout, file: &[u8], x: Rule, log: &[u8])
             return;
         }
         place = lines::place_after(n, place);
-        left -= 1;
     }
 }

@@ -36,14 +36,9 @@ fn after(out: Stdout, n: usize, kind: u8, text: &[u8], log: &mut [u8]) -> usize 
 
 fn run(out: Stdout, input: &[u8], log: &mut [u8]) {
     let mut n: usize = 0;
-    let mut at: usize = 0;
-    while at < input.len() {
-        let c = test_cases::case_at(input, at);
-        let start = c.start;
-        let end = c.end;
-        n = after(out, n, c.kind, &input[start..end], log);
-        at = c.next;
-    }
+    test_cases::each_case(input, |kind, text| {
+        n = after(out, n, kind, text, log);
+    });
 }
 
 fn main(rt: HostRuntime) {

@@ -22,10 +22,8 @@ pub fn write_verdict(out: Stdout, v: Verdict) {
 fn write_verdicts(out: Stdout, y: Timeline, lines: usize)
     requires { FitsRuns y × (lines ≤ 256) }
 {
-    let mut line: usize = 0;
-    while line <= lines {
+    for line in 0..=lines {
         write_verdict(out, timeline::verdict_at(y, line));
-        line += 1;
     }
 }
 

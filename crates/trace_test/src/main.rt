@@ -48,11 +48,8 @@ fn show_counts(out: Stdout, r: Record) {
 
 // Writes each run.
 fn show_runs(out: Stdout, r: Record) {
-    let n = r.runs.count;
-    let mut k: usize = 0;
-    while k < n {
+    for k in 0..r.runs.count {
         show_run(out, r, k);
-        k += 1;
     }
 }
 
@@ -132,14 +129,9 @@ fn after(out: Stdout, s: State, kind: u8, text: &[u8]) -> State {
 
 fn run(out: Stdout, input: &[u8]) {
     let mut s = unchanged(trace::no_lines());
-    let mut at: usize = 0;
-    while at < input.len() {
-        let c = test_cases::case_at(input, at);
-        let start = c.start;
-        let end = c.end;
-        s = after(out, s, c.kind, &input[start..end]);
-        at = c.next;
-    }
+    test_cases::each_case(input, |kind, text| {
+        s = after(out, s, kind, text);
+    });
 }
 
 fn main(rt: HostRuntime) {

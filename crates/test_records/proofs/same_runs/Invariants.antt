@@ -1,9 +1,0 @@
--- The loop passes each of the 128 runs once.
-use Prim.Native.Nat.{◌≤◌, ◌-◌}
-use Rattle.test_records.proofs.same_runs.Given as goal
-
-abbrev pub invariant-loop-i : goal.invariant-loop-i
-invariant-loop-i l = l.i ≤ 128
-
-abbrev pub decreases-loop-i : goal.decreases-loop-i
-decreases-loop-i l = 128 - l.i

@@ -1,9 +1,0 @@
--- The loop counts the runs.
-use Prim.Native.Nat.{◌≤◌, ◌-◌}
-use Rattle.trace_test.proofs.show_runs.Given as goal
-
-abbrev pub invariant-loop-k : goal.invariant-loop-k
-invariant-loop-k l = l.k ≤ l.n
-
-abbrev pub decreases-loop-k : goal.decreases-loop-k
-decreases-loop-k l = l.n - l.k

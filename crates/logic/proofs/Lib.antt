@@ -3,7 +3,6 @@ pub mod Closed
 pub mod PairSays
 pub mod LabelSays
 pub mod Labelled
-pub mod Bytes
 pub mod Nodes
 pub mod Judged
 pub mod Lessons

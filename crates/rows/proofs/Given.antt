@@ -10,8 +10,8 @@ use lib.ListN.{get_or}
 use Rattle.lists.proofs.Cases.{either_lt, either_eq}
 use Rattle.sets.specs.Sets.{mem}
 use Rattle.sets.specs.declared.RunSet.{RunSet}
-use Rattle.set_table.specs.Rows.{row, Stored}
-use Rattle.rows.specs.Values.{seconds_test, firsts_test, listed_test, holds, pair_value, given_value, listed_value, row_value, Wanted, Ranks, Tables, Filled}
+use Rattle.set_table.specs.Rows.{row}
+use Rattle.rows.specs.Values.{seconds_test, firsts_test, listed_test, holds, pair_value, given_value, listed_value, row_value, Wanted, Ranks, Tables}
 use Rattle.rows.proofs.Tests.{less_same, minus_same}
 use Rattle.rows.proofs.Between.{before_first, overlaps_first, includes_first, before_second, overlaps_second, includes_second, label_first, label_second}
 
@@ -151,19 +151,3 @@ module _ (start finish number begun ended labelled : List ℕ) (R : Ranks start 
         → (j : ℕ) → j < 128 → mem s j ≡ row_value start finish number wanted labels r j
     unfolding row_value
     row_listed W l u d j h = rw (le-ltb r 1024 l) (d j ∙ listed_value_lem wanted labels (r - 1024) W (omega arith) j h)
-
--- ── a loop over rows ──
-module _ (start finish number wanted : List ℕ) (labels : ℕ) where
-  pub filled_none : (old : List ℕ) → Filled start finish number wanted labels old old 0
-  filled_none old = record { long = refl; value = λ r j l h. absurd (omega arith); after = λ r l. refl }
-
-  pub filled_more : (old w new : List ℕ) (k : ℕ) (s : RunSet) → Filled start finish number wanted labels old w k → Stored w new k s
-      → ((j : ℕ) → j < 128 → mem s j ≡ row_value start finish number wanted labels k j) → Filled start finish number wanted labels old new (k + 1)
-  filled_more old w new k s d p v =
-      record {
-        long = p.long ∙ d.long;
-        value = λ r j l h.
-            either_eq r k (λ q. rw q (ap (λ (x : RunSet). mem x j) p.same ∙ v j h))
-            (λ n. ap (λ (x : RunSet). mem x j) (p.other r n) ∙ d.value r j (omega arith) h);
-        after = λ r l. p.other r (λ q. omega arith) ∙ d.after r (omega arith);
-      }

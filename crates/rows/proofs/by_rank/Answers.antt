@@ -2,22 +2,13 @@
 use Prim.Native.Nat.{◌<◌}
 use mathlib.Core.Path.{◌≡◌, refl}
 use native.Mathlib.Omega.{arith}
-use lib.ListN.{length, get_or, length-set}
-use borrow.Author.Rules.{rules}
+use lib.ListN.{length, length-set}
 use Rattle.rows.specs.ByRank.{ByRank}
 use Rattle.rows.proofs.Ranked.{by_rank_none, by_rank_more, by_rank_fits}
 use Rattle.rows.proofs.by_rank.Goals as goal
 
 pub loop-i-init : goal.loop-i-init
 loop-i-init c = (refl, refl, refl, by_rank_none _ _)
-
-pub offset_bounds-t-k : goal.offset_bounds-t-k
-offset_bounds-t-k c = let low : get_or c.args.o.run c.loop-i.i 0 < 128 = c.requires.run_low c.loop-i.i (omega arith) in
-    search rules
-
-pub bounds-t-k : goal.bounds-t-k
-bounds-t-k c = let low : get_or c.args.o.run c.loop-i.i 0 < 128 = c.requires.run_low c.loop-i.i (omega arith) in
-    search rules
 
 pub loop-i-preserved : goal.loop-i-preserved
 loop-i-preserved c = let at = c.loop-i in

@@ -15,9 +15,6 @@ kept-keep-requires c = record { ready = c.requires.ready.0; v_lt_variables = c.r
 pub loop-k-init : goal.loop-k-init
 loop-k-init c = λ M rows j h. absurd (omega (arith, h))
 
-pub is_kept-requires : goal.is_kept-requires
-is_kept-requires c = c.requires.ready.0.runs_few
-
 pub rebound-at_rank-requires : goal.rebound-at_rank-requires
 rebound-at_rank-requires c = c.requires.v_lt_variables.0
 

@@ -112,9 +112,9 @@ module _ (file : List ℕ) (p n : ℕ) (x : Node) (node : x ≡ node_at file p n
     unfolding scoped
     scoped_and r t k e f g = rw (formula-and file p n x node good k) (ap₂ ◌&&◌ (sym f ∙ e) g)
 
-    pub scoped_and_not : (r : Bool) → x.kind ≡ 1 → r ≡ scoped (formula_at file p x.a) s → r ≡ false → false ≡ scoped (formula_at file p n) s
+    pub scoped_and_not : (r : Bool) → x.kind ≡ 1 → r ≡ scoped (formula_at file p x.a) s → r ≡ false → r ≡ scoped (formula_at file p n) s
     unfolding scoped
-    scoped_and_not r k e f = rw (formula-and file p n x node good k) (ap₂ ◌&&◌ (sym f ∙ e) refl)
+    scoped_and_not r k e f = rw (formula-and file p n x node good k) (f ∙ ap₂ ◌&&◌ (sym f ∙ e) refl)
 
     pub scoped_not : (r : Bool) → x.kind ≡ 2 → r ≡ scoped (formula_at file p x.a) s → r ≡ scoped (formula_at file p n) s
     unfolding scoped
@@ -136,8 +136,8 @@ module _ (file : List ℕ) (p n : ℕ) (x : Node) (node : x ≡ node_at file p n
       pub scoped_pair : (r t : Bool) → r ≡ s x.a → r ≡ true → t ≡ s x.b → t ≡ scoped (formula_at file p n) s
       scoped_pair r t e f g = ap₂ ◌&&◌ (sym f ∙ e) g ∙ scoped_two
 
-      pub scoped_pair_not : (r : Bool) → r ≡ s x.a → r ≡ false → false ≡ scoped (formula_at file p n) s
-      scoped_pair_not r e f = ap₂ ◌&&◌ (sym f ∙ e) refl ∙ scoped_two
+      pub scoped_pair_not : (r : Bool) → r ≡ s x.a → r ≡ false → r ≡ scoped (formula_at file p n) s
+      scoped_pair_not r e f = f ∙ ap₂ ◌&&◌ (sym f ∙ e) refl ∙ scoped_two
 
   -- ── 10: how deep "some" nodes nest ──
   module _ (left : ℕ) where
@@ -145,19 +145,19 @@ module _ (file : List ℕ) (p n : ℕ) (x : Node) (node : x ≡ node_at file p n
     unfolding shallow
     shallow-and r t k e f g = rw (formula-and file p n x node good k) (ap₂ ◌&&◌ (sym f ∙ e) g)
 
-    pub shallow-and_not : (r : Bool) → x.kind ≡ 1 → r ≡ shallow left (formula_at file p x.a) → r ≡ false → false ≡ shallow left (formula_at file p n)
+    pub shallow-and_not : (r : Bool) → x.kind ≡ 1 → r ≡ shallow left (formula_at file p x.a) → r ≡ false → r ≡ shallow left (formula_at file p n)
     unfolding shallow
-    shallow-and_not r k e f = rw (formula-and file p n x node good k) (ap₂ ◌&&◌ (sym f ∙ e) refl)
+    shallow-and_not r k e f = rw (formula-and file p n x node good k) (f ∙ ap₂ ◌&&◌ (sym f ∙ e) refl)
 
     pub shallow_not : (r : Bool) → x.kind ≡ 2 → r ≡ shallow left (formula_at file p x.a) → r ≡ shallow left (formula_at file p n)
     unfolding shallow
     shallow_not r k e = rw (formula_not file p n x node good k) e
 
-    pub shallow-deep : x.kind ≡ 3 → left ≡ 0 → false ≡ shallow left (formula_at file p n)
+    pub shallow-deep : x.kind ≡ 3 → left ≤ 0 → ltb 0 left ≡ shallow left (formula_at file p n)
     unfolding shallow
-    shallow-deep k z = rw (formula_some file p n x node good k, z) refl
+    shallow-deep k z = let e : left ≡ 0 = omega arith in rw (formula_some file p n x node good k, e) refl
 
-    pub shallow_some : (r : Bool) → x.kind ≡ 3 → (left ≡ 0 → ⊥) → r ≡ shallow (left - 1) (formula_at file p x.b) → r ≡ shallow left (formula_at file p n)
+    pub shallow_some : (r : Bool) → x.kind ≡ 3 → 0 < left → r ≡ shallow (left - 1) (formula_at file p x.b) → r ≡ shallow left (formula_at file p n)
     unfolding shallow
     shallow_some r k z e =
         let q : left ≡ suc (left - 1) = omega arith in

@@ -15,18 +15,14 @@ use rules::{Node, Rule, VARIABLES, Vars};
 fn field_names(field: usize, c: usize) -> usize
     ensures { (result ≡ field_names field c) × (result ≤ 1) }
 {
-    if field == c {
-        return 1;
-    }
-    0
+    usize::from(field == c)
 }
 
 // How many fields of a node name node c.
 fn node_names(x: Node, c: usize) -> usize
     ensures { (result ≡ node_names x c) × (result ≤ 2) }
 {
-    let kind = x.kind;
-    match kind {
+    match x.kind {
         1 => field_names(x.a, c) + field_names(x.b, c),
         2 => field_names(x.a, c),
         3 => field_names(x.b, c),
@@ -56,6 +52,7 @@ fn named_once(file: &[u8], first: usize, count: usize) -> bool
 }
 
 // The variables bound inside a "some" that binds v.
+// Kept: `levels::entered` stores a level alike; one generic store would be no plainer than this line in each.
 fn entered(vars: Vars, v: usize) -> Vars
     requires { v < variables }
     ensures { scope_of result ≡ enter (scope_of vars) v }
@@ -78,22 +75,12 @@ fn is_scoped(file: &[u8], first: usize, node: usize, vars: Vars) -> bool
     ensures { result ≡ scoped (formula_at file.now first node) (scope_of vars) }
 {
     let x = node_at(file, first, node);
-    if x.kind == 1 {
-        if is_scoped(file, first, x.a, vars) {
-            is_scoped(file, first, x.b, vars)
-        } else {
-            false
-        }
-    } else if x.kind == 2 {
-        is_scoped(file, first, x.a, vars)
-    } else if x.kind == 3 {
-        is_scoped(file, first, x.b, entered(vars, x.a))
-    } else if x.kind == 4 {
-        is_bound(vars, x.a)
-    } else if is_bound(vars, x.a) {
-        is_bound(vars, x.b)
-    } else {
-        false
+    match x.kind {
+        1 => is_scoped(file, first, x.a, vars) && is_scoped(file, first, x.b, vars),
+        2 => is_scoped(file, first, x.a, vars),
+        3 => is_scoped(file, first, x.b, entered(vars, x.a)),
+        4 => is_bound(vars, x.a),
+        _ => is_bound(vars, x.a) && is_bound(vars, x.b),
     }
 }
 
@@ -114,22 +101,11 @@ fn is_shallow(file: &[u8], first: usize, node: usize, left: usize) -> bool
     ensures { result ≡ shallow left (formula_at file.now first node) }
 {
     let x = node_at(file, first, node);
-    if x.kind == 1 {
-        if is_shallow(file, first, x.a, left) {
-            is_shallow(file, first, x.b, left)
-        } else {
-            false
-        }
-    } else if x.kind == 2 {
-        is_shallow(file, first, x.a, left)
-    } else if x.kind == 3 {
-        if left == 0 {
-            false
-        } else {
-            is_shallow(file, first, x.b, left - 1)
-        }
-    } else {
-        true
+    match x.kind {
+        1 => is_shallow(file, first, x.a, left) && is_shallow(file, first, x.b, left),
+        2 => is_shallow(file, first, x.a, left),
+        3 => left > 0 && is_shallow(file, first, x.b, left - 1),
+        _ => true,
     }
 }
 

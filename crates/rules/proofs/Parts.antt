@@ -1,13 +1,15 @@
 -- Parts of a file: what a part that is read, cut short or faulty answers, and what is known after one that is read.
 use Prim.Native.Nat.{ℕ, ◌+◌, ◌*◌, ◌<◌, ◌≤◌}
 use mathlib.Core.Path.{◌≡◌, refl, sym, ap, ◌∙◌}
-use mathlib.Core.Bool.{Bool, true, false, cond}
-use mathlib.Core.List.{List}
+use mathlib.Core.Bool.{Bool, true, false, ◌&&◌, cond, and-true}
+use mathlib.Core.List.{List, [], ◌∷◌}
 use native.Mathlib.Omega.{arith}
-use lib.Dec.{leb}
+use Rattle.std.specs.List.{starts_with}
+use Rattle.lists.specs.Lists.{bytes}
+use lib.Dec.{eqb, leb}
 use lib.ListN.{length}
 use borrow.Author.Tests.{eq-eqb, ne_eqb, le-leb, lt-leb, leb-true}
-use Rattle.lists.proofs.Cases.{and_left, and_right}
+use Rattle.lists.proofs.Cases.{either_eq, and_left, and_right}
 use Rattle.rules.specs.Limits.{max_labels, max_nodes}
 use Rattle.rules.specs.Parts.{byte, part, and_then, read_mark, read_version, label_count, read_label_count, read_head, read_node_count, nothing_follows}
 use Rattle.std.specs.Prelude.{Result, Ok, Err}
@@ -86,6 +88,15 @@ module _ {A B : Type 0} where
   then-then (Err n) f g = refl
 
 -- ── the mark ──
+turned : (a b : ℕ) → eqb a b ≡ eqb b a
+turned a b = either_eq a b (λ e. simp (eq-eqb a b e, eq-eqb b a (sym e))) (λ n. simp (ne_eqb a b n, ne_eqb b a (λ e. n (sym e))))
+
+mark_is : (file : List ℕ) → 3 ≤ length file → starts_with eqb file (bytes "RUL") ≡ (eqb (byte file 0) 82 && (eqb (byte file 1) 85 && eqb (byte file 2) 76))
+mark_is [] h = absurd (omega arith)
+mark_is (a ∷ []) h = absurd (omega arith)
+mark_is (a ∷ b ∷ []) h = absurd (omega arith)
+mark_is (a ∷ b ∷ c ∷ file) h = rw (turned 82 a, turned 85 b, turned 76 c) (ap (λ (t : Bool). eqb a 82 && (eqb b 85 && t)) (and-true (eqb c 76)))
+
 module _ (file : List ℕ) where
   pub mark_short : length file < 3 → Err RuleEndsEarly ≡ read_mark file
   mark_short h = part_short file 0 3 _ RuleMark h
@@ -101,6 +112,13 @@ module _ (file : List ℕ) where
 
   pub mark_ok : 3 ≤ length file → byte file 0 ≡ 82 → byte file 1 ≡ 85 → byte file 2 ≡ 76 → Ok 3 ≡ read_mark file
   mark_ok h r u l = part_ok file 0 3 _ RuleMark h (simp (eq-eqb _ _ r, eq-eqb _ _ u, eq-eqb _ _ l))
+
+  -- the three bytes at once
+  pub unmarked : 3 ≤ length file → starts_with eqb file (bytes "RUL") ≡ false → Err RuleMark ≡ read_mark file
+  unmarked h e = part_bad file 0 3 _ RuleMark h (sym (mark_is file h) ∙ e)
+
+  pub marked : 3 ≤ length file → starts_with eqb file (bytes "RUL") ≡ true → Ok 3 ≡ read_mark file
+  marked h e = part_ok file 0 3 _ RuleMark h (sym (mark_is file h) ∙ e)
 
   -- ── the version ──
   pub version-short : length file < 5 → Err RuleEndsEarly ≡ read_version file
@@ -173,7 +191,7 @@ module _ (file : List ℕ) where
     unfolding nothing_follows
     none_follows e = rw (eq-eqb p (length file) e) refl
 
-pub ruleset marks = (mark_short, mark_r, mark_u, mark_l, mark_ok)
+pub ruleset marks = (mark_short, unmarked, marked)
 
 pub ruleset versions = (version-short, version_bad, version_ok)
 

@@ -12,13 +12,7 @@ fn mark(file: &[u8]) -> Result<usize, Refusal>
     if file.len() < 3 {
         return Err(Refusal::RuleEndsEarly);
     }
-    if file[0] != b'R' {
-        return Err(Refusal::RuleMark);
-    }
-    if file[1] != b'U' {
-        return Err(Refusal::RuleMark);
-    }
-    if file[2] != b'L' {
+    if !file.starts_with(b"RUL") {
         return Err(Refusal::RuleMark);
     }
     Ok(3)
@@ -31,8 +25,7 @@ fn version(file: &[u8]) -> Result<usize, Refusal>
     if file.len() < 5 {
         return Err(Refusal::RuleEndsEarly);
     }
-    let number = file[3] as usize + 256 * (file[4] as usize);
-    if number != 1 {
+    if u16::from_le_bytes([file[3], file[4]]) != 1 {
         return Err(Refusal::RuleVersion);
     }
     Ok(5)

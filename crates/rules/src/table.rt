@@ -23,18 +23,14 @@ pub fn node_at(file: &[u8], first: usize, n: usize) -> Node
 fn within(a: usize, m: usize, b: usize, n: usize) -> bool
     ensures { result ≡ (ltb a m && ltb b n) }
 {
-    if a < m {
-        return b < n;
-    }
-    false
+    a < m && b < n
 }
 
 // Whether the kind and fields of node i are in range.
 fn fields_ok(labels: usize, i: usize, x: Node) -> bool
     ensures { result ≡ fields_ok labels i x }
 {
-    let kind = x.kind;
-    match kind {
+    match x.kind {
         1 => within(x.a, i, x.b, i),
         2 => within(x.a, i, x.b, 1),
         3 => within(x.a, VARIABLES, x.b, i),

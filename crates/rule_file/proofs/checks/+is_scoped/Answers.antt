@@ -8,14 +8,14 @@ returns-then-is_scoped t c = search scopes
 pub returns-else-is_scoped : goal.returns-else-is_scoped
 returns-else-is_scoped t c = search scopes
 
-pub returns-then-x-eq2 : goal.returns-then-x-eq2
-returns-then-x-eq2 t c = search scopes
+pub returns-in-2 : goal.returns-in-2
+returns-in-2 t c = search scopes
 
-pub returns-then-x-eq3 : goal.returns-then-x-eq3
-returns-then-x-eq3 t c = search scopes
+pub returns-in-3 : goal.returns-in-3
+returns-in-3 t c = search scopes
 
-pub returns-then-x-eq4 : goal.returns-then-x-eq4
-returns-then-x-eq4 t c = search scopes
+pub returns-in-4 : goal.returns-in-4
+returns-in-4 t c = search scopes
 
 pub returns-then-is_bound : goal.returns-then-is_bound
 returns-then-is_bound t c = search scopes

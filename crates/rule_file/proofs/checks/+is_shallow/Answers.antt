@@ -8,14 +8,14 @@ returns-then-is_shallow t c = search depths
 pub returns-else-is_shallow : goal.returns-else-is_shallow
 returns-else-is_shallow t c = search depths
 
-pub returns-then-x-eq2 : goal.returns-then-x-eq2
-returns-then-x-eq2 t c = search depths
+pub returns-in-2 : goal.returns-in-2
+returns-in-2 t c = search depths
 
-pub returns-then-left-eq0 : goal.returns-then-left-eq0
-returns-then-left-eq0 t c = search depths
+pub returns-then-left-gt0 : goal.returns-then-left-gt0
+returns-then-left-gt0 t c = search depths
 
-pub returns-else-left-eq0 : goal.returns-else-left-eq0
-returns-else-left-eq0 t c = search depths
+pub returns-else-left-gt0 : goal.returns-else-left-gt0
+returns-else-left-gt0 t c = search depths
 
-pub returns-else-x-eq3 : goal.returns-else-x-eq3
-returns-else-x-eq3 t c = search depths
+pub returns-in_default : goal.returns-in_default
+returns-in_default t c = search depths

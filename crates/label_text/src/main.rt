@@ -84,7 +84,14 @@ fn refusal_of(p: Result<Piece, Refusal>) -> Written
 
 // Writes a text to standard output, and says on standard error where that fails. It asks that this is the text to be printed of the two
 // buffers and what the two reads answered.
-fn print_text(streams: Streams, book: &[u8], a: io::Result<usize>, label: &[u8], b: io::Result<usize>, text: &[u8])
+fn print_text(
+    streams: Streams,
+    book: &[u8],
+    a: io::Result<usize>,
+    label: &[u8],
+    b: io::Result<usize>,
+    text: &[u8],
+)
     requires { PrintsText a book.now b label.now text.now }
 {
     if let Err(e) = streams.output.write_all(text) {
@@ -94,7 +101,14 @@ fn print_text(streams: Streams, book: &[u8], a: io::Result<usize>, label: &[u8],
 
 // Writes a refusal's line to standard error. It asks that this is the line to be printed of the two buffers and what the two reads
 // answered.
-fn print_refusal(streams: Streams, book: &[u8], a: io::Result<usize>, label: &[u8], b: io::Result<usize>, line: &[u8])
+fn print_refusal(
+    streams: Streams,
+    book: &[u8],
+    a: io::Result<usize>,
+    label: &[u8],
+    b: io::Result<usize>,
+    line: &[u8],
+)
     requires { PrintsRefusal a book.now b label.now line.now }
 {
     let _ = streams.error.write_all(line);
@@ -136,7 +150,13 @@ fn show_refusal<'a>(
 }
 
 // Prints what is to be printed of the two buffers and what the two reads answered: nothing where one failed or the book is too long.
-fn print<'a>(streams: Streams, book: &'a [u8], a: io::Result<usize>, label: &'a [u8], b: io::Result<usize>)
+fn print<'a>(
+    streams: Streams,
+    book: &'a [u8],
+    a: io::Result<usize>,
+    label: &'a [u8],
+    b: io::Result<usize>,
+)
     requires { Fills a book.now × Fills b label.now }
 {
     match a {

@@ -197,7 +197,13 @@ fn make_text(file: &[u8], log: &[u8], text: &mut [u8]) -> usize
 
 // Puts what is to be printed at the start of the text, and answers its length: what is said of the bytes that the two reads brought, or
 // nothing where a read failed.
-fn text_of(rule: &[u8], r: io::Result<usize>, log: &[u8], l: io::Result<usize>, text: &mut [u8]) -> usize
+fn text_of(
+    rule: &[u8],
+    r: io::Result<usize>,
+    log: &[u8],
+    l: io::Result<usize>,
+    text: &mut [u8],
+) -> usize
     requires text_size_in_bounds { text_size ≤ length text.old }
     requires fills { Fills r rule.now × Fills l log.now }
     ensures { Prepared r rule.now l log.now text.new result }
@@ -213,7 +219,14 @@ fn text_of(rule: &[u8], r: io::Result<usize>, log: &[u8], l: io::Result<usize>, 
 
 // Writes a text to standard output, and says on standard error where that fails. It asks that this is the text to be printed of the
 // two buffers and what the two reads answered.
-fn hand_on(streams: Streams, rule: &[u8], r: io::Result<usize>, log: &[u8], l: io::Result<usize>, text: &[u8])
+fn hand_on(
+    streams: Streams,
+    rule: &[u8],
+    r: io::Result<usize>,
+    log: &[u8],
+    l: io::Result<usize>,
+    text: &[u8],
+)
     requires { Prints r rule.now l log.now text.now }
 {
     if let Err(e) = streams.output.write_all(text) {

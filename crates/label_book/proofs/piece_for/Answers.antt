@@ -1,5 +1,5 @@
 -- The piece by what was looked up and whether it is a label.
-use Rattle.std.proofs.Common.{not, ap, arith, ◌+◌, ◌≤◌, length}
+use Rattle.std.proofs.Common.{arith, ◌+◌, ◌≤◌, length}
 use Rattle.std.proofs.lemmas.Result.{err_from_is_err_and}
 use Rattle.label_book.proofs.Answers.{no_book_answer, no_label_answer, text_answer_lem, log_answer, label_inside}
 use Rattle.label_book.proofs.piece_for.Goals as goal

@@ -21,7 +21,6 @@ use Rattle.labels.proofs.Capitals.{capital_sign}
 use Rattle.typed_formula.specs.Meaning.{label_text}
 use Rattle.typed_grammar.specs.File.{place_in}
 use Rattle.text_labels.specs.Pieces.{EndsLabel, Cut, texts, Finds, good_labels?}
-use Rattle.text_labels.specs.declared.Piece.{Piece}
 
 -- ── where a label ends ──
 pub record Scanned (text : List ℕ) (at p : ℕ) : Type 0 where
@@ -74,18 +73,11 @@ module _ (text : List ℕ) (at p : ℕ) (s : Scanned text at p) where
           inside = omega arith;
         }
 
-pub cut : (text : List ℕ) (n from end : ℕ) → (from ≡ length text - n) × (from ≤ length text) → EndsLabel text from end → Cut text n (record { from = from; end = end })
+pub cut : (text : List ℕ) (n from end : ℕ) → (from ≡ length text - n) × (from ≤ length text) → EndsLabel text from end → Cut text n (take (end - from) (drop from text))
 unfolding label_text
 cut text n from end f e =
-    let s : List ℕ = take (end - from) (drop from text) in
-    let b : capitals s ≡ label_text text n = ap capitals e.bytes ∙ ap (λ (k : ℕ). capitals (up_to 39 (drop k text))) f.0 in
-    let l : length s ≡ end - from = length-take-le (end - from) (drop from text) (omega (arith, length-drop from text, e.inside)) in
-    record {
-      bytes = b;
-      size = sym l ∙ (sym (length-map s capital) ∙ ap length b);
-      ahead = e.ahead;
-      inside = e.inside;
-    }
+    let b : capitals (take (end - from) (drop from text)) ≡ label_text text n = ap capitals e.bytes ∙ ap (λ (k : ℕ). capitals (up_to 39 (drop k text))) f.0 in
+    record { bytes = b; size = sym (length-map (take (end - from) (drop from text)) capital) ∙ ap length b }
 
 -- ── two labels ──
 pub byte_inside : (text : List ℕ) (p r : ℕ) → r ≡ capital (get_or text p 0) → p < length text → r ≡ get_or (capitals text) p 39
@@ -194,7 +186,7 @@ found_number text places n o r e f =
     record { number = z ∙ sym (number_is text (label_text text n) places); few = omega arith }
 
 -- ── the form of a label ──
-pub label_form : (text : List ℕ) (n : ℕ) (x : Piece) (r : Bool) → Cut text n x → r ≡ label_form? (capitals (take (x.end - x.from) (drop x.from text))) → r ≡ label_form? (label_text text n)
+pub label_form : (text : List ℕ) (n : ℕ) (x : List ℕ) (r : Bool) → Cut text n x → r ≡ label_form? (capitals x) → r ≡ label_form? (label_text text n)
 label_form text n x r c e = e ∙ ap label_form? c.bytes
 
 abbrev pub label_good : List ℕ → ℕ → Bool

@@ -5,7 +5,6 @@ use Rattle.lists.specs.Lists.{up_to}
 use Rattle.labels.specs.Label.{capitals, label_form?}
 use Rattle.typed_formula.specs.Meaning.{label_text}
 use Rattle.typed_grammar.specs.File.{place_in}
-use Rattle.text_labels.specs.declared.Piece.{Piece}
 
 -- the bytes from a place to the first quote end at r
 pub record EndsLabel (text : List ℕ) (at r : ℕ) : Type 0 where
@@ -13,12 +12,10 @@ pub record EndsLabel (text : List ℕ) (at r : ℕ) : Type 0 where
   pub ahead : at ≤ r
   pub inside : r ≤ length text
 
--- the piece that is a label as it is written
-pub record Cut (text : List ℕ) (n : ℕ) (x : Piece) : Type 0 where
-  pub bytes : capitals (take (x.end - x.from) (drop x.from text)) ≡ label_text text n
-  pub size : x.end - x.from ≡ length (label_text text n)
-  pub ahead : x.from ≤ x.end
-  pub inside : x.end ≤ length text
+-- the bytes of a label as it is written
+pub record Cut (text : List ℕ) (n : ℕ) (x : List ℕ) : Type 0 where
+  pub bytes : capitals x ≡ label_text text n
+  pub size : length x ≡ length (label_text text n)
 
 -- the labels at places
 abbrev pub texts : List ℕ → List ℕ → List (List ℕ)

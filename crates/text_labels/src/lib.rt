@@ -10,13 +10,6 @@ ghost use Rattle.typed_formula.specs.Meaning.{label_text};
 ghost use Rattle.labels.specs.Label.{capitals, label_form?};
 ghost use Rattle.text_labels.specs.Pieces.{EndsLabel, Cut, Finds, good_labels?, texts};
 
-// A label's first byte, and the place behind its last.
-#[derive(Clone, Copy)]
-pub struct Piece {
-    pub from: usize,
-    pub end: usize,
-}
-
 // The place of the first quote from a place on, or the text's end.
 fn label_end(text: &[u8], at: usize) -> usize
     requires { at ≤ length text.now }
@@ -40,13 +33,13 @@ fn label_start(text: &[u8], n: usize) -> usize
     text.len() - n
 }
 
-// The piece that is a label.
-pub fn cut_label(text: &[u8], n: usize) -> Piece
-    ensures { Cut text.now n result }
+// The bytes of a label, as they are written.
+pub fn cut_label(text: &[u8], n: usize) -> &[u8]
+    ensures { Cut text.now n result.now }
 {
     let from = label_start(text, n);
     let end = label_end(text, from);
-    Piece { from, end }
+    &text[from..end]
 }
 
 // The capital of the byte at a place; a quote behind the end.
@@ -100,10 +93,7 @@ pub fn find(text: &[u8], places: &[usize], n: usize) -> usize
 fn label_ok(text: &[u8], n: usize) -> bool
     ensures { result ≡ label_form? (label_text text.now n) }
 {
-    let x = cut_label(text, n);
-    let a = x.from;
-    let b = x.end;
-    labels::is_label(&text[a..b])
+    labels::is_label(cut_label(text, n))
 }
 
 // Whether each label has the length and the bytes of one.

@@ -15,37 +15,37 @@ use Rattle.text_labels.specs.Pieces.{texts, Finds}
 use Rattle.typed_checks.specs.Tests.{bound_step, few_step, noted, Notes}
 
 module _ (ok : Bool) (kind a b : ℕ) where
-  pub bound_lost : not ok ≡ true → false ≡ bound_step ok kind a b
+  pub bound_lost : ok ≡ false → ok ≡ bound_step ok kind a b
   unfolding bound_step
-  bound_lost e = simp (not-true ok e)
+  bound_lost e = simp e
 
-  pub bound_none : not ok ≡ false → kind < 4 → true ≡ bound_step ok kind a b
+  pub bound_none : ok ≡ true → kind < 4 → ltb kind 4 ≡ bound_step ok kind a b
   unfolding bound_step
-  bound_none e h = simp (not-false ok e, lt-ltb kind 4 h)
+  bound_none e h = simp (e, lt-ltb kind 4 h)
 
-  pub bound_first : not ok ≡ false → 4 ≤ kind → a ≡ 255 → false ≡ bound_step ok kind a b
+  pub bound_first : ok ≡ true → 4 ≤ kind → a ≡ 255 → not (eqb a 255) ≡ bound_step ok kind a b
   unfolding bound_step
-  bound_first e h q = simp (not-false ok e, le-ltb kind 4 h, eq-eqb a 255 q)
+  bound_first e h q = simp (e, le-ltb kind 4 h, eq-eqb a 255 q)
 
-  pub bound_label : not ok ≡ false → 4 ≤ kind → (a ≡ 255 → ⊥) → kind ≡ 4 → true ≡ bound_step ok kind a b
+  pub bound_label : ok ≡ true → 4 ≤ kind → (a ≡ 255 → ⊥) → kind ≡ 4 → eqb kind 4 ≡ bound_step ok kind a b
   unfolding bound_step
-  bound_label e h q k = simp (not-false ok e, le-ltb kind 4 h, ne_eqb a 255 q, eq-eqb kind 4 k)
+  bound_label e h q k = simp (e, le-ltb kind 4 h, ne_eqb a 255 q, eq-eqb kind 4 k)
 
-  pub bound_second : not ok ≡ false → 4 ≤ kind → (a ≡ 255 → ⊥) → (kind ≡ 4 → ⊥) → not (eqb b 255) ≡ bound_step ok kind a b
+  pub bound_second : ok ≡ true → 4 ≤ kind → (a ≡ 255 → ⊥) → (kind ≡ 4 → ⊥) → not (eqb b 255) ≡ bound_step ok kind a b
   unfolding bound_step
-  bound_second e h q k = simp (not-false ok e, le-ltb kind 4 h, ne_eqb a 255 q, ne_eqb kind 4 k)
+  bound_second e h q k = simp (e, le-ltb kind 4 h, ne_eqb a 255 q, ne_eqb kind 4 k)
 
-  pub few_lost : not ok ≡ true → false ≡ few_step ok kind a b
+  pub few_lost : ok ≡ false → ok ≡ few_step ok kind a b
   unfolding few_step
-  few_lost e = simp (not-true ok e)
+  few_lost e = simp e
 
-  pub few_none : not ok ≡ false → (kind ≡ 3 → ⊥) → true ≡ few_step ok kind a b
+  pub few_none : ok ≡ true → (kind ≡ 3 → ⊥) → not (eqb kind 3) ≡ few_step ok kind a b
   unfolding few_step
-  few_none e h = simp (not-false ok e, ne_eqb kind 3 h)
+  few_none e h = simp (e, ne_eqb kind 3 h)
 
-  pub few_some : not ok ≡ false → kind ≡ 3 → ltb a 4 ≡ few_step ok kind a b
+  pub few_some : ok ≡ true → kind ≡ 3 → ltb a 4 ≡ few_step ok kind a b
   unfolding few_step
-  few_some e h = simp (not-false ok e, eq-eqb kind 3 h)
+  few_some e h = simp (e, eq-eqb kind 3 h)
 
 pub ruleset bound-cases = (bound_lost, bound_none, bound_first, bound_label, bound_second)
 

@@ -15,32 +15,14 @@ use text_labels::{find, labels_ok};
 fn bound_step(ok: bool, kind: usize, a: usize, b: usize) -> bool
     ensures { result ≡ bound_step ok kind a b }
 {
-    if !ok {
-        return false;
-    }
-    if kind < 4 {
-        return true;
-    }
-    if a == 255 {
-        return false;
-    }
-    if kind == 4 {
-        return true;
-    }
-    b != 255
+    ok && (kind < 4 || (a != 255 && (kind == 4 || b != 255)))
 }
 
 // What all nodes before say, and whether a node is no fifth "some" inside others.
 fn few_step(ok: bool, kind: usize, a: usize) -> bool
     ensures { result ≡ few_step ok kind a 0 }
 {
-    if !ok {
-        return false;
-    }
-    if kind != 3 {
-        return true;
-    }
-    a < 4
+    ok && (kind != 3 || a < 4)
 }
 
 // Whether every name of the table is bound.

@@ -15,18 +15,14 @@ use Rattle.labels.specs.declared.Label.{Label}
 use Rattle.labels.proofs.Same.{text_of}
 use Rattle.typed_formula.specs.Meaning.{label_text}
 use Rattle.text_labels.specs.Pieces.{Cut, Finds, texts}
-use Rattle.text_labels.specs.declared.Piece.{Piece}
 use Rattle.typed_checks.proofs.Numbers.{texts-long, texts_append}
 use Rattle.grammar.specs.Layout.{front, labels_part}
 use Rattle.typed_file.specs.File.{label_bytes, second, node_bytes, nodes_bytes, file_from, Short, Fit}
 
 -- ── labels ──
 -- the label that the code makes of a piece of the text
-module _ (text : List ℕ) (n : ℕ) (x : Piece) (k : Cut text n x) where
-  abbrev piece : List ℕ
-  piece = take (x.end - x.from) (drop x.from text)
-
-  module _ (l : Label) (e : l ≡ label_of (capitals piece)) where
+module _ (text : List ℕ) (n : ℕ) (x : List ℕ) (k : Cut text n x) where
+  module _ (l : Label) (e : l ≡ label_of (capitals x)) where
     label_is : l ≡ label_of (label_text text n)
     label_is = e ∙ ap label_of k.bytes
 

@@ -14,12 +14,9 @@ fn write_label(text: &[u8], n: usize, out: &mut [u8], at: usize) -> usize
     requires { (length (label_text text.now n) ≤ 24) × (at + 25 ≤ length out.old) }
     ensures { Appends out.old at (label_bytes (label_text text.now n)) out.new result }
 {
-    let x = cut_label(text, n);
-    let from = x.from;
-    let end = x.end;
-    let label = labels::label_from(&text[from..end]);
-    let length = [label.length; 1];
-    let p = append(out, at, &length[..]);
+    let label = labels::label_from(cut_label(text, n));
+    let length = [label.length];
+    let p = append(out, at, &length);
     let size = label.length as usize;
     let capitals = label.bytes;
     append(out, p, &capitals[..size])
@@ -63,11 +60,9 @@ fn write_node(
     ensures { Appends out.old at (node_bytes (texts text.now places.now) text.now table.now i) out.new result }
 {
     let kind = table[3 * i];
-    let mut node = [0u8; 3];
-    node[0] = kind as u8;
-    node[1] = table[3 * i + 1] as u8;
-    node[2] = second_field(text, places, kind, table[3 * i + 2]);
-    append(out, at, &node[..])
+    let second = second_field(text, places, kind, table[3 * i + 2]);
+    let node = [kind as u8, table[3 * i + 1] as u8, second];
+    append(out, at, &node)
 }
 
 // The nodes.
@@ -96,15 +91,10 @@ pub fn write_file(text: &[u8], table: &[usize], n: usize, places: &[usize], out:
     requires in_bounds { 599 ≤ length out.old }
     ensures { Appends out.old 0 (file_from text.now table.now n (texts text.now places.now)) out.new result }
 {
-    let mut head = [0u8; 6];
-    head[0] = b'R';
-    head[1] = b'U';
-    head[2] = b'L';
-    head[3] = 1;
-    head[5] = places.len() as u8;
-    let labels = append(out, 0, &head[..]);
+    let head = [b'R', b'U', b'L', 1, 0, places.len() as u8];
+    let labels = append(out, 0, &head);
     let count = write_labels(text, places, out, labels);
-    let size = [n as u8; 1];
-    let nodes = append(out, count, &size[..]);
+    let size = [n as u8];
+    let nodes = append(out, count, &size);
     write_nodes(text, table, places, n, out, nodes)
 }

@@ -8,8 +8,8 @@ overflow_cast-node c = search fit_kind
 pub overflow_cast-node-2 : goal.overflow_cast-node-2
 overflow_cast-node-2 c = search fit_first
 
-pub second_field-requires : goal.second_field-requires
-second_field-requires c = fit_second _ _ _ _ c.requires.fit _ c.requires.i_lt_n.0
+pub second_field-second-requires : goal.second_field-second-requires
+second_field-second-requires c = fit_second _ _ _ _ c.requires.fit _ c.requires.i_lt_n.0
 
 pub returns : goal.returns
 returns c = search wrote_node

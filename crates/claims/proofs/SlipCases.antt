@@ -19,7 +19,7 @@ use Rattle.rules.specs.Labels.{label_start, listed, read_label, read_labels}
 use Rattle.rules.specs.Table.{read_nodes, tree, formula_at}
 use Rattle.rules.specs.Checks.{times_named, once_below, whole_table}
 use Rattle.rules.specs.declared.Rule.{Rule}
-use Rattle.std.specs.Prelude.{Ok, Err}
+use Rattle.std.specs.Prelude.{Ok, Err, true, false}
 use Rattle.refusals.specs.declared.Refusal.TheVariants.{NoFinishedRun, RuleTooDeep}
 use Rattle.rules.specs.Rules.{rule_of, formula_of}
 use Rattle.rules.proofs.Worked.{p1-taken, p1-formula, p10-taken, p10-formula}

@@ -30,6 +30,7 @@ pub fn put_number(text: &mut [u8], at: usize, n: u32) -> usize
     requires { (at + 3 ≤ length text.old) × (n ≤ 999) }
     ensures { WritesFew 3 (decimal n) text.old at text.new result }
 {
+    // Kept: `write!` answers a Result that can't fail here, and not the place behind the digits, which each caller writes on from.
     if n < 10 {
         return put_byte(text, at, last_digit(n));
     }

@@ -6,11 +6,11 @@ use mathlib.Core.Option.{Option, none, some}
 use native.Mathlib.Omega.{arith}
 use lib.ListN.{length, set}
 use borrow.Author.Tests.{lt-ltb, le-ltb, eq-eqb, ne_eqb}
+use Rattle.std.specs.Prelude.{Result}
+use Rattle.refusals.specs.declared.Refusal.{Refusal}
 use Rattle.trace.specs.declared.Record.{Record}
 use Rattle.pairs.specs.declared.Layout.{Layout}
 use Rattle.pairs.specs.declared.Layout.TheVariants.{Square, Half}
-use Rattle.relations.specs.declared.Composed.{Composed}
-use Rattle.relations.specs.declared.Related.{Related}
 use Rattle.reading.specs.declared.Ending.{Ending}
 use Rattle.reading.specs.declared.LogRead.{LogRead}
 use Rattle.single.specs.declared.Outcome.{Outcome}
@@ -22,27 +22,23 @@ use Rattle.output.specs.declared.Written.{Written}
 use Rattle.whole_log.specs.declared.Mode.TheVariants.{FirstFailure, Full}
 use Rattle.whole_log.proofs.Part.{not_full}
 use Rattle.report.specs.declared.Reported.{Reported}
-use Rattle.record_bytes.specs.declared.PackOutcome.{PackOutcome as Packed}
 use Rattle.record_bytes.specs.Form.{record_size}
 use Rattle.record_bytes.specs.Calls.{pack_of, Packs}
-use Rattle.answer_numbers.specs.Numbers.{layout_named, NamesMode, ByNamed, ByLayout, set_number, relation_number, outcome_number, ending_number, log_number, report_number, ReportFits, written_number, WrittenFits}
+use Rattle.answer_numbers.specs.Numbers.{layout_named, NamesMode, ByNamed, ByLayout, outcome_number, ending_number, log_number, report_number, ReportFits, written_number, WrittenFits}
 use Rattle.answer_numbers.specs.InBytes.{as_byte, record_in, bytes_after, line_numbered, tally_in, numbers_after, tallied_numbered, bytes_left, log_kept}
 
--- ── sets of relations ──
-pub refused_set : (c : Composed) (n : ℕ) → c ≡ Composed.Refused n → n * 65536 ≡ set_number c
-refused_set c n e = sym (ap set_number e)
-
--- ── two runs ──
+-- ── numbers in a byte ──
 pub byte_above : (a : ℕ) → 255 < a → 255 ≡ as_byte a
 byte_above a h = simp (lt-ltb _ _ h)
 
 pub byte_same : (a : ℕ) → a ≤ 255 → a ≡ as_byte a
 byte_same a h = simp (le-ltb _ _ h)
 
-pub refused_relation : (w : Related) (n : ℕ) → w ≡ Related.Refused n → n * 65536 ≡ relation_number w
-refused_relation w n e = sym (ap relation_number e)
-
 -- ── one line ──
+-- what packing a record answers
+abbrev pub Packed : Type 0
+Packed = Result (Unit {0}) Refusal
+
 -- a buffer that is long enough
 pub packed : (r : Record) (b : List ℕ) (p : Packed) (b' : List ℕ) → record_size ≤ length b → Packs r b p b' → b' ≡ record_in r b
 unfolding pack_of

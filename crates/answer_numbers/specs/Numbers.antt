@@ -1,12 +1,12 @@
 -- Answers as numbers, for programs in other languages: "For an answer that is an enum, a definition gives this paper's number and
 -- values for each case of the enum." One form for all: a refusal is 65,536 times its number, and whatever else is answered (a verdict,
 -- a count of lines, a line's number, a length, a set, a relation) is below 65,536.
-use Rattle.std.specs.Prelude.{ℕ, ◌+◌, ◌*◌, ◌/◌, ◌%◌, ◌≤◌, ◌≡◌, cond, ◌↔◌, eqb}
+use Rattle.std.specs.Prelude.{ℕ, ◌+◌, ◌*◌, ◌/◌, ◌%◌, ◌≤◌, ◌≡◌, cond, ◌↔◌, eqb, Result, Ok, Err}
 use Rattle.std.proofs.Math.Option.{Option, none, some}
+use Rattle.refusals.specs.Refusal.{number}
+use Rattle.refusals.specs.declared.Refusal.{Refusal}
 use Rattle.pairs.specs.declared.Layout.{Layout}
 use Rattle.pairs.specs.declared.Layout.TheVariants.{Square, Half}
-use Rattle.relations.specs.declared.Composed.{Composed}
-use Rattle.relations.specs.declared.Related.{Related}
 use Rattle.reading.specs.declared.Ending.{Ending}
 use Rattle.reading.specs.declared.Ending.TheVariants.{Read, Refused}
 use Rattle.reading.specs.declared.LogRead.{LogRead}
@@ -51,17 +51,11 @@ pub record NamesMode (n : ℕ) (m : Mode) : Type 0 where
   pub answer : m ≡ mode_named n
   pub full : (m ≡ Full) ↔ (n ≡ 1)
 
--- ── sets of relations ──
--- "a set, 0 to 63"
-abbrev pub set_number : Composed → ℕ
-set_number (Composed.Set c) = c
-set_number (Composed.Refused n) = refusal n
-
--- ── two runs ──
--- "their one relation by its number"
-abbrev pub relation_number : Related → ℕ
-relation_number (Related.Relation n) = n
-relation_number (Related.Refused n) = refusal n
+-- ── sets of relations, and two runs ──
+-- "a set, 0 to 63", and "their one relation by its number"
+abbrev pub answer_number : Result ℕ Refusal → ℕ
+answer_number (Ok n) = n
+answer_number (Err e) = refusal (number e)
 
 -- ── one line ──
 -- "1 holds, 0 fails"

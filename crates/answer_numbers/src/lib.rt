@@ -7,22 +7,21 @@
 
 ghost use Rattle.std.specs.Prelude.{◌≡◌, ◌≤◌, length};
 ghost use Rattle.std.proofs.Math.Option.{some};
-ghost use Rattle.answer_numbers.specs.Numbers.{layout_named, NamesMode, set_number, relation_number, log_number, report_number, ReportFits, written_number, WrittenFits};
+ghost use Rattle.refusals.specs.Refusal.{number};
+ghost use Rattle.answer_numbers.specs.Numbers.{refusal, layout_named, NamesMode, answer_number, log_number, report_number, ReportFits, written_number, WrittenFits};
 ghost use Rattle.answer_numbers.specs.InBytes.{as_byte, line_numbered, tally_from, tally_in, tallied_numbered, log_kept};
 
 use output::Written;
 use pairs::Layout;
 use reading::{Ending, LogRead};
-use relations::{Composed, Related};
+use refusals::Refusal;
 use report::Reported;
 use single::{Checked, Outcome};
 use tallies::{Tallied, Tally};
 use whole_log::Mode;
 
-// The largest number that a byte holds: it is no run and no set, and neither is any number above it.
-const LAST_BYTE: u32 = 255;
-
 // The verdicts.
+// Kept: C interface: `scene_log_check_line` answers these numbers.
 const HOLDS: u32 = 1;
 
 const FAILS: u32 = 0;
@@ -31,6 +30,7 @@ const FAILS: u32 = 0;
 pub const REFUSAL_STEP: u32 = 65536;
 
 // The layout that a number names.
+// Kept: no plainer: a `From` of a number for `Layout` would have to stand in the crate of `Layout`, which knows no numbers of C.
 pub fn layout_of(n: u32) -> Layout
     requires { n ≤ 1 }
     ensures { layout_named n ≡ some result }
@@ -39,6 +39,7 @@ pub fn layout_of(n: u32) -> Layout
 }
 
 // The mode that a number names.
+// Kept: no plainer: a `From` of a number for `Mode` would have to stand in the crate of `Mode`, which knows no numbers of C.
 pub fn mode_of(n: u32) -> Mode
     ensures { NamesMode n result }
 {
@@ -48,23 +49,20 @@ pub fn mode_of(n: u32) -> Mode
     Mode::FirstFailure
 }
 
-// The number of a set, or the refusal.
-pub fn set_number(c: Composed) -> u32
-    ensures { result ≡ set_number c }
+// The number of a refusal.
+pub fn refusal_number(refused: Refusal) -> u32
+    ensures { result ≡ refusal (number refused) }
 {
-    match c {
-        Composed::Set(s) => return s as u32,
-        Composed::Refused(n) => return (n as u32) * REFUSAL_STEP,
-    }
+    u32::from(u8::from(refused)) * REFUSAL_STEP
 }
 
-// The number of a relation, or the refusal.
-pub fn relation_number(x: Related) -> u32
-    ensures { result ≡ relation_number x }
+// The number of a set or of a relation, or the refusal.
+pub fn answer_number(answered: Result<u8, Refusal>) -> u32
+    ensures { result ≡ answer_number answered }
 {
-    match x {
-        Related::Relation(r) => return r as u32,
-        Related::Refused(n) => return (n as u32) * REFUSAL_STEP,
+    match answered {
+        Ok(n) => u32::from(n),
+        Err(refused) => refusal_number(refused),
     }
 }
 
@@ -90,14 +88,11 @@ pub fn written_number(a: Written) -> u32
     }
 }
 
-// A number as a byte: 255 for every number above it.
+// A number as a byte: 255 for every number above it. It is no run and no set, and neither is any number above it.
 pub fn as_byte(a: u32) -> u8
     ensures { result ≡ as_byte a }
 {
-    if a > LAST_BYTE {
-        return 255;
-    }
-    a as u8
+    u8::try_from(a).unwrap_or(u8::MAX)
 }
 
 // The verdict as a number, with the record of a line that is taken put into the bytes; or the refusal.
@@ -110,11 +105,11 @@ pub fn keep_record(c: Checked, carried: &mut [u8]) -> u32
     match outcome {
         Outcome::Refused(n) => return (n as u32) * REFUSAL_STEP,
         Outcome::Holds => {
-            record_bytes::pack(state, carried);
+            let _ = record_bytes::pack(state, carried);
             return HOLDS;
         }
         Outcome::Fails => {
-            record_bytes::pack(state, carried);
+            let _ = record_bytes::pack(state, carried);
             return FAILS;
         }
     }
@@ -158,12 +153,12 @@ pub fn keep_tallied(c: Tallied, carried: &mut [u8], numbers: &mut [u32]) -> u32
     match outcome {
         Outcome::Refused(n) => return (n as u32) * REFUSAL_STEP,
         Outcome::Holds => {
-            record_bytes::pack(state, carried);
+            let _ = record_bytes::pack(state, carried);
             put_tally(tally, numbers);
             return HOLDS;
         }
         Outcome::Fails => {
-            record_bytes::pack(state, carried);
+            let _ = record_bytes::pack(state, carried);
             put_tally(tally, numbers);
             return FAILS;
         }
@@ -192,14 +187,14 @@ pub fn keep_log(c: LogRead, carried: &mut [u8]) -> u32
     let n = log_number(c);
     match ending {
         Ending::Read => {
-            record_bytes::pack(state, carried);
+            let _ = record_bytes::pack(state, carried);
             return n;
         }
         Ending::Refused { number: _, line } => {
             if line == 0 {
                 return n;
             }
-            record_bytes::pack(state, carried);
+            let _ = record_bytes::pack(state, carried);
             return n;
         }
     }

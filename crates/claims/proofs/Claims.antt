@@ -3,7 +3,7 @@ use Prim.Native.Nat.{ℕ, ◌<◌}
 use mathlib.Core.Path.{◌≡◌, ◌∙◌}
 use native.Mathlib.Omega.{arith}
 use borrow.Author.Tests.{le-leb}
-use Rattle.relations.specs.declared.Composed.{Composed}
+use Rattle.std.specs.Prelude.{Ok}
 use Rattle.relations.specs.Compose.{compose_of, composed_of}
 use Rattle.relations.proofs.Demand.{demand-3 as composition-law}
 use Rattle.claims.specs.Demands.{Demand3, Demands}
@@ -21,7 +21,7 @@ use Rattle.claims.proofs.CaseCalls.{no_difference}
 use Rattle.claims.proofs.LabelBook.{the_label_book}
 use Rattle.claims.proofs.Worked as Worked
 
-is_composed : (a b : ℕ) → a < 64 → b < 64 → composed_of a b ≡ Composed.Set (compose_of a b)
+is_composed : (a b : ℕ) → a < 64 → b < 64 → composed_of a b ≡ Ok (compose_of a b)
 is_composed a b h k = simp (le-leb a 63 (omega arith), le-leb b 63 (omega arith))
 
 demand-3 : Demand3

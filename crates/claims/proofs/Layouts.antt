@@ -7,6 +7,7 @@ use mathlib.Core.Option.{Option, none, some}
 use native.Mathlib.Omega.{arith}
 use lib.ListN.{length, get_or, set}
 use borrow.Author.Tests.{lt-ltb, le-ltb}
+use Rattle.std.specs.Prelude.{Ok}
 use Rattle.lists.specs.Limits.{max_runs, max_lines}
 use Rattle.lists.proofs.Cases.{either_bool, either_lt}
 use Rattle.lines.specs.Log.{lines_of}
@@ -15,7 +16,6 @@ use Rattle.trace.specs.Trace.{Trace, Answer, next, refused, no_trace, step}
 use Rattle.trace.specs.Record.{record_of}
 use Rattle.pairs.specs.declared.Layout.{Layout}
 use Rattle.pairs.specs.declared.Started.{Started}
-use Rattle.pairs.specs.declared.Start.TheVariants.{Ready}
 use Rattle.pairs.specs.Layout.{work_size, place}
 use Rattle.pairs.specs.Pairs.{work_of}
 use Rattle.pairs.specs.Start.{start_of}
@@ -48,7 +48,7 @@ use Rattle.claims.specs.Layouts.{Layouts}
 use Rattle.claims.proofs.Refusals.{demand-1}
 
 -- ── starting a record ──
-started : (lay : Layout) (w : List ℕ) → work_size lay ≤ length w → (start_of lay w).0 ≡ record { state = record_of no_trace; outcome = Ready }
+started : (lay : Layout) (w : List ℕ) → work_size lay ≤ length w → (start_of lay w).0 ≡ record { state = record_of no_trace; outcome = Ok tt }
 unfolding start_of
 started lay w h = simp (le-ltb (length w) (work_size lay) h)
 

@@ -7,6 +7,9 @@ use mathlib.Core.Bool.{true}
 use native.Mathlib.Omega.{arith}
 use lib.ListN.{length, get_or, take}
 use borrow.Author.Tests.{lt-ltb, le-ltb}
+use Rattle.std.specs.Prelude.{Result, Ok, Err}
+use Rattle.refusals.specs.declared.Refusal.{Refusal}
+use Rattle.refusals.specs.declared.Refusal.TheVariants.{ShortBuffer}
 use Rattle.lists.specs.Limits.{max_lines}
 use Rattle.lists.proofs.Cases.{either_lt, either_bool, no_both}
 use Rattle.lists.proofs.Lists.{append-nil}
@@ -21,7 +24,6 @@ use Rattle.trace.proofs.Size.{accepted-short}
 use Rattle.pairs.specs.declared.Layout.{Layout}
 use Rattle.pairs.specs.Layout.{work_size}
 use Rattle.pairs.specs.declared.Started.{Started}
-use Rattle.pairs.specs.declared.Start.TheVariants as Start
 use Rattle.pairs.specs.Pairs.{pair_byte, work_of}
 use Rattle.pairs.specs.Start.{start_of}
 use Rattle.pairs.proofs.Accepted.{pair_byte_names_the_order}
@@ -104,14 +106,14 @@ over lay log t r w w' a s p =
     record { accepted = a; encoded = s; pairs = p ∙ (sym (work_over lay t w t) ∙ ap (work_of lay t) (sym p)) }
 
 -- ── starting a record ──
-not_ready : {C : Type 0} (c : ℕ) → Start.Refused c ≡ Start.Ready → C
-not_ready c e = absurd (let z : ◌≡◌ {A = ℕ} 0 1 = cc in omega arith)
+not_ready : {C : Type 0} → ◌≡◌ {A = Result (Unit {0}) Refusal} (Err ShortBuffer) (Ok tt) → C
+not_ready e = cc
 
-started : (lay : Layout) (w : List ℕ) → (start_of lay w).0.outcome ≡ Start.Ready → Settled lay [] (start_of lay w).0.state (start_of lay w).1
+started : (lay : Layout) (w : List ℕ) → (start_of lay w).0.outcome ≡ Ok tt → Settled lay [] (start_of lay w).0.state (start_of lay w).1
 unfolding start_of
 started lay w =
     either_lt (length w) (work_size lay)
-    (λ s. simp (lt-ltb (length w) (work_size lay) s) (λ e. not_ready 20 e))
+    (λ s. simp (lt-ltb (length w) (work_size lay) s) (λ e. not_ready e))
     (λ s. simp (le-ltb (length w) (work_size lay) s) (λ e. left_settled lay [] no_trace _ _ (left_by_lem lay [] no_trace no_bytes w)))
 
 -- ── one line ──
@@ -189,7 +191,7 @@ pub demand-2 : Demand2
 demand-2 =
     record {
       rule = λ file f. (rule_file-taken file f, λ p. subst (RuleFile file) p.2 (rule_says file p.0 p.1));
-      start = λ k e. subst (λ (z : Started × List ℕ). z.0.outcome ≡ Start.Ready → Settled k.layout [] z.0.state z.1) (sym k.starts) (started k.layout k.work) e;
+      start = λ k e. subst (λ (z : Started × List ℕ). z.0.outcome ≡ Ok tt → Settled k.layout [] z.0.state z.1) (sym k.starts) (started k.layout k.work) e;
       line = line_judged;
       tallied = tallied-judged;
       zeros = tally_starts;

@@ -1,5 +1,5 @@
 -- Demand 1: where each call refuses, and what it leaves then; and that no call writes past what it is stated to write.
-use Rattle.std.specs.Prelude.{ℕ, ◌≤◌, ◌<◌, ◌≡◌, ◌⊎◌, ◌↔◌, false, List, length, take, drop, Some, Err}
+use Rattle.std.specs.Prelude.{ℕ, ◌≤◌, ◌<◌, ◌≡◌, ◌⊎◌, ◌↔◌, false, List, length, take, drop, Some, Err, Result}
 use Rattle.lists.specs.Lists.{has?}
 use Rattle.refusals.specs.declared.Refusal.{Refusal}
 use Rattle.refusals.specs.Refusal.{number, RefusedWith}
@@ -8,15 +8,8 @@ use Rattle.lines.specs.Log.{next_line, advanced_from}
 use Rattle.trace.specs.declared.Record.{Record}
 use Rattle.trace.specs.declared.RunNo.{RunNo}
 use Rattle.pairs.specs.Layout.{work_size}
-use Rattle.pairs.specs.declared.Start.TheVariants as Start
-use Rattle.relations.specs.declared.Related.TheVariants as RelateAnswer
-use Rattle.relations.specs.declared.Related as Answer
-use Rattle.relations.specs.declared.Composed.{Composed}
 use Rattle.relations.specs.Runs.{Relating, Conversed}
 use Rattle.relations.specs.Compose.{Composition}
-use Rattle.std.specs.Prelude.{Result}
-use Rattle.refusals.specs.Refusal.{RefusedWith}
-use Rattle.refusals.specs.declared.Refusal.{Refusal}
 use Rattle.rules.specs.declared.Rule.{Rule}
 use Rattle.rules.specs.Rules.{ReadsRule}
 use Rattle.reading.specs.declared.Ending.TheVariants as Ending
@@ -57,7 +50,7 @@ pub data LogKept (k : LogCall) (c n : ℕ) : Type 0 where
 
 pub record Demand1 : Type 0 where
   pub start : (k : StartCall) (c : ℕ)
-      → Refuses c (k.answer.outcome ≡ Start.Refused c)
+      → Refuses c (RefusedWith c k.answer.outcome)
       ((length k.work < work_size k.layout) × (c ≡ 20)) (k.work' ≡ k.work)
   pub line : (k : LineCall) (c : ℕ)
       → Refuses c (k.answer.outcome ≡ Refused c)
@@ -74,12 +67,12 @@ pub record Demand1 : Type 0 where
       → Refuses c (k.answer ≡ Reported.Refused c) ((LongEnough k → ⊥) × (c ≡ 20))
       ((k.work' ≡ k.work) × (k.verdicts' ≡ k.verdicts) × (k.text' ≡ k.text))
   -- calls that are lent no buffer
-  pub relate : (r : Record) (a b : RunNo) (v : Answer.Related) → Relating r a b v → (c : ℕ)
-      → Refuses c (v ≡ RelateAnswer.Refused c) (MetRelate r a.0 b.0 c) (Unit {0})
-  pub compose : (a b : ℕ) (v : Composed) → Composition a b v → (c : ℕ)
-      → Refuses c (v ≡ Composed.Refused c) (((63 < a) ⊎ (63 < b)) × (c ≡ 14)) (Unit {0})
-  pub converse : (a : ℕ) (v : Composed) → Conversed a v → (c : ℕ)
-      → Refuses c (v ≡ Composed.Refused c) ((63 < a) × (c ≡ 14)) (Unit {0})
+  pub relate : (r : Record) (a b : RunNo) (v : Result ℕ Refusal) → Relating r a b v → (c : ℕ)
+      → Refuses c (RefusedWith c v) (MetRelate r a.0 b.0 c) (Unit {0})
+  pub compose : (a b : ℕ) (v : Result ℕ Refusal) → Composition a b v → (c : ℕ)
+      → Refuses c (RefusedWith c v) (((63 < a) ⊎ (63 < b)) × (c ≡ 14)) (Unit {0})
+  pub converse : (a : ℕ) (v : Result ℕ Refusal) → Conversed a v → (c : ℕ)
+      → Refuses c (RefusedWith c v) ((63 < a) × (c ≡ 14)) (Unit {0})
   -- reading: a rule file, one line, the next line of a log
   pub rule : (file : List ℕ) (q : Result Rule Refusal) → ReadsRule file q → (c : ℕ)
       → Refuses c (RefusedWith c q) (MetRule file c) (Unit {0})

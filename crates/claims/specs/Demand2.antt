@@ -1,6 +1,7 @@
 -- Demand 2: what each call leaves after accepted lines.
-use Rattle.std.specs.Prelude.{ℕ, suc, ◌+◌, ◌≤◌, ◌<◌, ◌≡◌, ◌↔◌, List, [], ◌++◌, length, get_or, take}
+use Rattle.std.specs.Prelude.{ℕ, suc, ◌+◌, ◌≤◌, ◌<◌, ◌≡◌, ◌↔◌, List, [], ◌++◌, length, get_or, take, Result, Ok}
 use Rattle.lists.specs.Limits.{max_lines}
+use Rattle.refusals.specs.declared.Refusal.{Refusal}
 use Rattle.lines.specs.Log.{lines_of}
 use Rattle.trace.specs.declared.Record.{Record}
 use Rattle.trace.specs.declared.RunNo.{RunNo}
@@ -9,10 +10,7 @@ use Rattle.trace.specs.Record.{record_of}
 use Rattle.trace.specs.Orderly.{Orderly, OneRun, max_log_bytes}
 use Rattle.pairs.specs.declared.Layout.{Layout}
 use Rattle.pairs.specs.Layout.{work_size}
-use Rattle.pairs.specs.declared.Start.TheVariants as Start
 use Rattle.pairs.specs.Start.{start_of}
-use Rattle.relations.specs.declared.Related as Answer
-use Rattle.relations.specs.declared.Related.TheVariants as RelateAnswer
 use Rattle.relations.specs.Runs.{Relating, RelatedAs}
 use Rattle.rules.specs.declared.Rule.{Rule}
 use Rattle.std.specs.Prelude.{Ok, Err}
@@ -46,7 +44,7 @@ pub record Demand2 : Type 0 where
   pub rule : (file : List ℕ) (f : Formula)
       → RuleFile file f ↔ ((x : Rule) × (rule_of file ≡ Ok x) × (formula_of file x ≡ f))
   -- a record that is started is that of no lines
-  pub start : (k : StartCall) → k.answer.outcome ≡ Start.Ready → Settled k.layout [] k.answer.state k.work'
+  pub start : (k : StartCall) → k.answer.outcome ≡ Ok tt → Settled k.layout [] k.answer.state k.work'
   -- a line that the single-line call takes on what accepted lines left
   pub line : (k : LineCall) (x : Rule) → rule_of k.file ≡ Ok x → (log : List ℕ) (t : Trace)
       → Left k.layout log t k.state k.work → (v : Verdict) → k.answer.outcome ≡ judged v
@@ -65,8 +63,8 @@ pub record Demand2 : Type 0 where
   pub counts : (file : List ℕ) (x : Rule) (log : List ℕ) (t : Trace) → Accepted log t
       → Counts t (tally_after file x log t)
   -- "answers their one relation by its number"
-  pub relate : (r : Record) (a b : RunNo) (v : Answer.Related) → Relating r a b v → (log : List ℕ) (t : Trace)
-      → Accepted log t → r ≡ record_of t → (n : ℕ) → (v ≡ RelateAnswer.Relation n) ↔ RelatedAs t a.0 b.0 n
+  pub relate : (r : Record) (a b : RunNo) (v : Result ℕ Refusal) → Relating r a b v → (log : List ℕ) (t : Trace)
+      → Accepted log t → r ≡ record_of t → (n : ℕ) → (v ≡ Ok n) ↔ RelatedAs t a.0 b.0 n
   -- the lines of the part of a whole log that is read (`Modes` says which), and the lines of its report
   pub log : (k : LogCall) (x : Rule) → rule_of k.file ≡ Ok x → work_size k.layout ≤ length k.work
       → max_lines ≤ length k.verdicts → Reads k x

@@ -43,8 +43,8 @@
 --   TextMeans           what the printed text says of a log                               report/specs/Report
 --   Repeats             the single-line call, one line after another                      whole_log/specs/Repeated
 --   Member, Shown, ShownByThree   sets of relations; what a log shows by three runs       relations/specs
-use Rattle.std.specs.Prelude.{ℕ, ◌<◌, ◌≡◌, ◌↔◌, List}
-use Rattle.relations.specs.declared.Composed.{Composed}
+use Rattle.std.specs.Prelude.{ℕ, ◌<◌, ◌≡◌, ◌↔◌, List, Result, Ok}
+use Rattle.refusals.specs.declared.Refusal.{Refusal}
 use Rattle.relations.specs.Relation.{Relation}
 use Rattle.relations.specs.Sets.{Member}
 use Rattle.relations.specs.Compose.{Composition, Shown, ShownByThree}
@@ -62,15 +62,15 @@ use Rattle.claims.specs.LabelBook.{LabelBook}
 -- finished runs where a member of the first set relates the first run to the second, a member of the second set
 -- relates the second to the third, and the relation taken relates the first to the third. Wherever a log shows this,
 -- an accepted log with three runs and no others shows it too."
-pub record Composes (a b : ℕ) (v : Composed) : Type 0 where
+pub record Composes (a b : ℕ) (v : Result ℕ Refusal) : Type 0 where
   pub composition : ℕ
-  pub reported : v ≡ Composed.Set composition
+  pub reported : v ≡ Ok composition
   pub exactly : (r : Relation) → Member r composition ↔ ((log : List ℕ) × Shown log a b r)
   pub by_three : (r : Relation) (log : List ℕ) → Shown log a b r → ShownByThree a b r
 
 -- of every answer of the composing call
 abbrev pub Demand3 : Type 0
-Demand3 = (a b : ℕ) → a < 64 → b < 64 → (v : Composed) → Composition a b v → Composes a b v
+Demand3 = (a b : ℕ) → a < 64 → b < 64 → (v : Result ℕ Refusal) → Composition a b v → Composes a b v
 
 pub record Demands : Type 0 where
   pub first : Demand1

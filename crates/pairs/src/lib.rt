@@ -19,6 +19,7 @@ ghost use Rattle.trace.specs.Trace.{no_trace};
 ghost use Rattle.trace.specs.Steps.{held};
 
 use lists::MAX_RUNS;
+use refusals::Refusal;
 use trace::{Record, Run, RunNo, RunTable};
 
 // Where the pair bytes lie: in a row for each run, or each pair of runs once.
@@ -33,18 +34,12 @@ pub const SQUARE_BYTES: usize = 16384;
 
 pub const HALF_BYTES: usize = 8128;
 
-// A record is started, or the number of the refusal.
-#[derive(Clone, Copy)]
-pub enum Start {
-    Ready,
-    Refused(u8),
-}
-
 // The record of no lines, and whether the work area is ready for it.
+// Kept: what may not change: `start_of` names the record that comes with a refusal.
 #[derive(Clone, Copy)]
 pub struct Started {
     pub state: Record,
-    pub outcome: Start,
+    pub outcome: Result<(), Refusal>,
 }
 
 // The fewest bytes of a work area in the layout.
@@ -179,7 +174,7 @@ pub fn pairs_match(layout: Layout, r: Record, work: &[u8]) -> bool
     same_bytes(work, right, end)
 }
 
-// Starts a record: clears the pair bytes and answers the record of no lines, or refuses with 20 and touches nothing.
+// Starts a record: clears the pair bytes and answers the record of no lines, or refuses a short area and touches nothing.
 pub fn start_record(layout: Layout, work: &mut [u8]) -> Started
     ensures { (result, work.new) ≡ start_of layout work.old }
 {
@@ -188,12 +183,12 @@ pub fn start_record(layout: Layout, work: &mut [u8]) -> Started
     if work.len() < end {
         return Started {
             state: state,
-            outcome: Start::Refused(20),
+            outcome: Err(Refusal::ShortBuffer),
         };
     }
     clear_pairs(layout, work);
     Started {
         state: state,
-        outcome: Start::Ready,
+        outcome: Ok(()),
     }
 }

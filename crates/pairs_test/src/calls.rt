@@ -1,15 +1,16 @@
 // Lines that are taken, and what they leave.
 use super::area;
-use pairs::{Layout, Start};
+use pairs::Layout;
+use refusals::Refusal;
 use std::io::Stdout;
 use refusals::Refusal;
 use trace::{Record, RunNo};
 
 // Writes how a record starts.
-fn show_start(out: Stdout, o: Start) {
+fn show_start(out: Stdout, o: Result<(), Refusal>) {
     match o {
-        Start::Ready => test_text::write(out, b"ready"),
-        Start::Refused(code) => test_text::write_refusal(out, code),
+        Ok(()) => test_text::write(out, b"ready"),
+        Err(e) => test_text::write_refusal(out, u8::from(e)),
     }
 }
 

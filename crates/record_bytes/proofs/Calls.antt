@@ -8,7 +8,8 @@ use borrow.Author.Tests.{lt-ltb, le-ltb}
 use Rattle.trace.specs.declared.Record.{Record}
 use Rattle.trace.specs.Trace.{no_trace}
 use Rattle.trace.specs.Record.{record_of, Valid}
-use Rattle.record_bytes.specs.declared.PackOutcome.TheVariants.{Done, Refused}
+use Rattle.std.specs.Prelude.{Ok, Err}
+use Rattle.refusals.specs.declared.Refusal.TheVariants.{ShortBuffer}
 use Rattle.record_bytes.specs.declared.Unpacked.{Unpacked}
 use Rattle.record_bytes.specs.Joined.{stored}
 use Rattle.record_bytes.specs.Form.{record_size, record_bytes, record_from}
@@ -33,26 +34,26 @@ unpacks s u e =
     }
 
 module _ (s : List ℕ) (r : Record) where
-  pub unpack_short : length s < record_size → r ≡ record_of no_trace → Unpacks s (record { state = r; outcome = Refused 20 })
+  pub unpack_short : length s < record_size → r ≡ record_of no_trace → Unpacks s (record { state = r; outcome = Err ShortBuffer })
   unfolding unpack_of
-  unpack_short h e = unpacks s _ (simp (lt-ltb _ _ h) (λ i. record { state = e i; outcome = Refused 20 }))
+  unpack_short h e = unpacks s _ (simp (lt-ltb _ _ h) (λ i. record { state = e i; outcome = Err ShortBuffer }))
 
-  pub unpack_done : record_size ≤ length s → r ≡ record_from s → Unpacks s (record { state = r; outcome = Done })
+  pub unpack_done : record_size ≤ length s → r ≡ record_from s → Unpacks s (record { state = r; outcome = Ok tt })
   unfolding unpack_of
-  unpack_done h e = unpacks s _ (simp (le-ltb _ _ h) (λ i. record { state = e i; outcome = Done }))
+  unpack_done h e = unpacks s _ (simp (le-ltb _ _ h) (λ i. record { state = e i; outcome = Ok tt }))
 
 -- ── packing ──
 module _ (r : Record) (out : List ℕ) where
-  pub pack_short : length out < record_size → Packs r out (Refused 20) out
+  pub pack_short : length out < record_size → Packs r out (Err ShortBuffer) out
   unfolding pack_of
-  pack_short h = record { answer = simp (lt-ltb _ _ h); meaning = λ v e. absurd (let z : ◌≡◌ {A = ℕ} 0 1 = cc in omega arith) }
+  pack_short h = record { answer = simp (lt-ltb _ _ h); meaning = λ v e. cc }
 
-  pub pack_done : (out' : List ℕ) → record_size ≤ length out → out' ≡ stored out 0 (record_bytes r) → Packs r out Done out'
+  pub pack_done : (out' : List ℕ) → record_size ≤ length out → out' ≡ stored out 0 (record_bytes r) → Packs r out (Ok tt) out'
   unfolding pack_of
   pack_done out' h e =
       let is : out' ≡ record_bytes r ++ drop record_size out = stored_front out out' (record_bytes r) record_size e (record_long r) h in
       record {
-        answer = simp (le-ltb _ _ h) (λ i. (Done, is i));
+        answer = simp (le-ltb _ _ h) (λ i. (Ok tt, is i));
         meaning = λ v _. ap unpack_of is ∙ unpacked_again r v (drop record_size out);
       }
 

@@ -10,6 +10,7 @@
 
 ghost use Rattle.record_bytes.specs.Calls.{Unpacks, Packs};
 
+use refusals::Refusal;
 use trace::Record;
 
 mod read;
@@ -36,21 +37,15 @@ const LABEL_BYTES: usize = 25;
 // The place of the first of the 128 label places, of one byte each.
 const PLACES_AT: usize = 2500;
 
-// The bytes are read or written, or the number of the refusal.
-#[derive(Clone, Copy)]
-pub enum PackOutcome {
-    Done,
-    Refused(u8),
-}
-
 // The record that bytes hold: the record of no lines where they are refused.
+// Kept: what may not change: `Unpacks` names the record that comes with a refusal.
 #[derive(Clone, Copy)]
 pub struct Unpacked {
     pub state: Record,
-    pub outcome: PackOutcome,
+    pub outcome: Result<(), Refusal>,
 }
 
-// The record that the first 2,628 bytes hold, or 20 where there are fewer.
+// The record that the first 2,628 bytes hold; fewer are refused.
 pub fn unpack(bytes: &[u8]) -> Unpacked
     ensures { Unpacks bytes.now result }
 {
@@ -58,23 +53,23 @@ pub fn unpack(bytes: &[u8]) -> Unpacked
         let none = trace::no_lines();
         return Unpacked {
             state: none,
-            outcome: PackOutcome::Refused(20),
+            outcome: Err(Refusal::ShortBuffer),
         };
     }
     let r = read::record_from(bytes);
     Unpacked {
         state: r,
-        outcome: PackOutcome::Done,
+        outcome: Ok(()),
     }
 }
 
-// Writes the record's bytes to the front of a buffer, or refuses with 20 and touches nothing.
-pub fn pack(r: Record, out: &mut [u8]) -> PackOutcome
+// Writes the record's bytes to the front of a buffer, or refuses a short one and touches nothing.
+pub fn pack(r: Record, out: &mut [u8]) -> Result<(), Refusal>
     ensures { Packs r out.old result out.new }
 {
     if out.len() < RECORD_BYTES {
-        return PackOutcome::Refused(20);
+        return Err(Refusal::ShortBuffer);
     }
     write::put_record(out, r);
-    PackOutcome::Done
+    Ok(())
 }

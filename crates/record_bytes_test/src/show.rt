@@ -1,6 +1,6 @@
 // Bytes, and what the calls answer.
 use monitor::Checked;
-use record_bytes::PackOutcome;
+use refusals::Refusal;
 use std::io::Stdout;
 
 // Writes the bytes from a place to before another.
@@ -15,11 +15,11 @@ fn bytes(out: Stdout, s: &[u8], from: usize, to: usize) {
 }
 
 // Writes whether bytes were read or written.
-pub fn outcome(out: Stdout, o: PackOutcome) {
+pub fn outcome(out: Stdout, o: Result<(), Refusal>) {
     match o {
-        PackOutcome::Done => test_text::write(out, b"done\n"),
-        PackOutcome::Refused(n) => {
-            test_text::write_refusal(out, n);
+        Ok(()) => test_text::write(out, b"done\n"),
+        Err(e) => {
+            test_text::write_refusal(out, u8::from(e));
             test_text::write(out, b"\n");
         }
     }

@@ -19,6 +19,7 @@ mod naming;
 mod table;
 
 // The six relations by their numbers.
+// Kept: C interface: `scene_log_relate` answers these numbers, and `scene_log_compose` takes and answers their sums.
 const BEFORE: u8 = 1;
 
 const AFTER: u8 = 2;
@@ -47,6 +48,7 @@ struct Span {
 }
 
 // The number of the relation of a to b, by where they start and finish, or 0.
+// Kept: what may not change: the clause `Compared` names 0 where none of the six holds.
 pub fn relation_between(start_a: u64, finish_a: u64, start_b: u64, finish_b: u64) -> u8
     ensures { Compared start_a finish_a start_b finish_b result }
 {

@@ -7,6 +7,10 @@ use native.Mathlib.Omega.{arith}
 use lib.ListN.{length, drop}
 use borrow.Author.Tests.{lt-ltb, le-ltb, ne_eqb}
 use Rattle.lists.proofs.Cases.{either_lt}
+use Rattle.std.specs.Prelude.{Result, Ok, Err}
+use Rattle.refusals.specs.Refusal.{number}
+use Rattle.refusals.specs.declared.Refusal.{Refusal}
+use Rattle.refusals.specs.declared.Refusal.TheVariants.{ShortBuffer, NoFinishedRun}
 use Rattle.trace.specs.declared.Record.{Record}
 use Rattle.trace.specs.Trace.{Trace, no_trace, run_no, Accepted}
 use Rattle.trace.specs.Record.{record_of, Valid}
@@ -15,10 +19,8 @@ use Rattle.trace.proofs.Bounds.{accepted-bounded}
 use Rattle.pairs.specs.declared.Layout.{Layout}
 use Rattle.pairs.specs.Layout.{work_size}
 use Rattle.pairs.specs.declared.Started.{Started}
-use Rattle.pairs.specs.declared.Start.TheVariants as Start
 use Rattle.pairs.specs.Pairs.{work_of}
 use Rattle.pairs.specs.Start.{start_of}
-use Rattle.relations.specs.declared.Related.{Related}
 use Rattle.relations.specs.Runs.{relate_in, Relating}
 use Rattle.relations.proofs.Runs.{not_finished, answers}
 use Rattle.logic.specs.declared.Verdict.{Verdict}
@@ -35,14 +37,13 @@ use Rattle.whole_log.specs.Log.{log_of, ChecksLog}
 use Rattle.whole_log.specs.Part.{read_part, ChecksPart}
 use Rattle.single.specs.Line.{judged, ChecksLine}
 use Rattle.whole_log.proofs.Repeated.{left_by_lem}
-use Rattle.record_bytes.specs.declared.PackOutcome.{PackOutcome as Packed}
 use Rattle.record_bytes.specs.declared.Unpacked.{Unpacked}
 use Rattle.record_bytes.specs.Form.{record_size, record_from}
 use Rattle.record_bytes.specs.Calls.{unpack_of, Unpacks, Packs}
 use Rattle.record_bytes.proofs.Carried.{packed_and_unpacked}
-use Rattle.answer_numbers.specs.Numbers.{relation_number, mode_named, NamesMode}
+use Rattle.answer_numbers.specs.Numbers.{answer_number, mode_named, NamesMode}
 use Rattle.answer_numbers.specs.InBytes.{as_byte, record_in, bytes_after, line_numbered, tally_from, tally_in, numbers_after, tallied_numbered, bytes_left, log_kept}
-use Rattle.answer_numbers.proofs.Numbered.{packed, byte_above, byte_same}
+use Rattle.answer_numbers.proofs.Numbered.{Packed, packed, byte_above, byte_same}
 use Rattle.scene_log.specs.InBytes.{start_numbered, StartsNumber, ChecksBytes, ChecksLineNumber, ChecksTalliedBytes, ChecksTalliedNumber, KeepsLog, KeepsLogNumber, NumbersRuns, RelatesBytes, RelatesNumber}
 
 -- ── a buffer that is long enough ──
@@ -79,29 +80,30 @@ module _ (lay : Layout) (b w : List ℕ) where
           ap (λ (z : Started × List ℕ). z.1) p,
         )
 
-    short : length w < work_size lay → is (record { state = record_of no_trace; outcome = Start.Refused 20 }) w
+    short : length w < work_size lay → is (record { state = record_of no_trace; outcome = Err ShortBuffer }) w
     unfolding start_of
     short h = parts _ w (simp (lt-ltb _ _ h))
 
-    ready : work_size lay ≤ length w → is (record { state = record_of no_trace; outcome = Start.Ready }) (work_of lay no_trace w)
+    ready : work_size lay ≤ length w → is (record { state = record_of no_trace; outcome = Ok tt }) (work_of lay no_trace w)
     unfolding start_of
     ready h = parts _ (work_of lay no_trace w) (simp (le-ltb _ _ h))
 
-    pub start_no_work : (n : ℕ) → s.outcome ≡ Start.Refused n → StartsNumber lay b w (n * 65536) b w'
+    pub start_no_work : (n : Refusal) → s.outcome ≡ Err n → (k : ℕ) → k ≡ number n * 65536 → StartsNumber lay b w k b w'
     unfolding start_numbered
-    start_no_work n q =
+    start_no_work n q k e =
         either_lt (length w) (work_size lay)
         (λ h.
-        let k = short h in
-        let m : n ≡ 20 = cc in
-        record { answer = simp (le-ltb _ _ long, lt-ltb _ _ h) (λ j. (m j * 65536, b, k.2 j)); meaning = λ z. absurd (omega arith) })
-        (λ h. let k = ready h in absurd (let z : ◌≡◌ {A = ℕ} 0 1 = cc in omega arith))
+        let p = short h in
+        let m : n ≡ ShortBuffer = cc in
+        let z : k ≡ 20 * 65536 = e ∙ ap (λ (x : Refusal). number x * 65536) m in
+        record { answer = simp (le-ltb _ _ long, lt-ltb _ _ h) (λ j. (z j, b, p.2 j)); meaning = λ y. absurd (omega arith) })
+        (λ h. let p = ready h in cc)
 
-    pub start_both : s.outcome ≡ Start.Ready → (p : Packed) (b' : List ℕ) → Packs s.state b p b' → StartsNumber lay b w 0 b' w'
+    pub start_both : s.outcome ≡ Ok tt → (p : Packed) (b' : List ℕ) → Packs s.state b p b' → StartsNumber lay b w 0 b' w'
     unfolding start_numbered
     start_both q p b' k =
         either_lt (length w) (work_size lay)
-        (λ h. let m = short h in absurd (let z : ◌≡◌ {A = ℕ} 0 1 = cc in omega arith))
+        (λ h. let m = short h in cc)
         (λ h.
         let m = ready h in
         let put : b' ≡ record_in s.state b = packed s.state b p b' long k in
@@ -236,10 +238,10 @@ part_kept lay m how q file log b w out h a w' out' k n b' e =
 -- ── two runs ──
 -- no run has a number above 127, so the numbers above 255 are as good as 255
 module _ (t : Trace) (few : length t.runs ≤ 128) (x y : ℕ) where
-  first_is_none : (a b : ℕ) → 128 ≤ a → Related.Refused 22 ≡ relate_in t a b
+  first_is_none : (a b : ℕ) → 128 ≤ a → Err NoFinishedRun ≡ relate_in t a b
   first_is_none a b h = not_finished t a b (λ f. omega (arith, f.0.begun))
 
-  second_is_none : (a b : ℕ) → 128 ≤ b → Related.Refused 22 ≡ relate_in t a b
+  second_is_none : (a b : ℕ) → 128 ≤ b → Err NoFinishedRun ≡ relate_in t a b
   second_is_none a b h = not_finished t a b (λ f. omega (arith, f.1.begun))
 
   runs_as_bytes : relate_in t (as_byte x) (as_byte y) ≡ relate_in t x y
@@ -254,24 +256,24 @@ module _ (b : List ℕ) (x y : ℕ) where
   pub relate_no_record : length b < record_size → RelatesNumber b x y (20 * 65536)
   relate_no_record h = record { short = λ _. refl; long = λ g. absurd (omega arith) }
 
-  numbers_runs : (log : List ℕ) (t : Trace) → Accepted log t → (w : Related) → w ≡ relate_in t (as_byte x) (as_byte y)
-      → (n : ℕ) → n ≡ relation_number w → NumbersRuns t x y n
+  numbers_runs : (log : List ℕ) (t : Trace) → Accepted log t → (w : Result ℕ Refusal) → w ≡ relate_in t (as_byte x) (as_byte y)
+      → (n : ℕ) → n ≡ answer_number w → NumbersRuns t x y n
   numbers_runs log t a w e n q =
       record {
-        answer = q ∙ ap relation_number (e ∙ runs_as_bytes t (accepted-bounded log t a).runs x y);
+        answer = q ∙ ap answer_number (e ∙ runs_as_bytes t (accepted-bounded log t a).runs x y);
         meaning = answers log t a x y (relate_in t x y) refl;
       }
 
-  relates_bytes : (w : Related) → Relating (record_from b) (run_no (as_byte x)) (run_no (as_byte y)) w → (n : ℕ) → n ≡ relation_number w → RelatesBytes b x y n
+  relates_bytes : (w : Result ℕ Refusal) → Relating (record_from b) (run_no (as_byte x)) (run_no (as_byte y)) w → (n : ℕ) → n ≡ answer_number w → RelatesBytes b x y n
   relates_bytes w k n q =
       record {
         decided = k.decided;
         known = λ log t a e. numbers_runs log t a w (k.known log t a e).answer n q;
-        unknown = λ v. q ∙ ap relation_number (k.unknown v);
+        unknown = λ v. q ∙ ap answer_number (k.unknown v);
       }
 
   pub relate_known : record_size ≤ length b → (u : Unpacked) → Unpacks b u → (x' : ℕ) → x' ≡ as_byte x → (y' : ℕ) → y' ≡ as_byte y
-      → (w : Related) → Relating u.state (run_no x') (run_no y') w → (n : ℕ) → n ≡ relation_number w → RelatesNumber b x y n
+      → (w : Result ℕ Refusal) → Relating u.state (run_no x') (run_no y') w → (n : ℕ) → n ≡ answer_number w → RelatesNumber b x y n
   relate_known h u p x' ex y' ey w k n q =
       let same : Relating (record_from b) (run_no (as_byte x)) (run_no (as_byte y)) w =
       subst (λ (z : Record × ℕ × ℕ). Relating z.0 (run_no z.1) (run_no z.2) w) (λ i. (unpacked b u h p i, ex i, ey i)) k in

@@ -24,7 +24,7 @@ use Rattle.tallies.specs.declared.Tallied.{Tallied}
 use Rattle.tallies.specs.Tally.{counts?, ChecksTallied}
 use Rattle.whole_log.specs.Log.{log_of, LogStopped, ChecksLog}
 use Rattle.whole_log.specs.Part.{read_part}
-use Rattle.answer_numbers.specs.Numbers.{refusal, relation_number, ByLayout, mode_named}
+use Rattle.answer_numbers.specs.Numbers.{refusal, answer_number, ByLayout, mode_named}
 use Rattle.answer_numbers.specs.InBytes.{record_in, line_numbered, tally_from, tallied_numbered, log_kept}
 
 -- ── the start of a record ──
@@ -116,7 +116,7 @@ KeepsLogFor l m file log b w out n b' w' out' =
 -- ── two runs ──
 -- the number n of runs x and y of t; and what it says of them
 pub record NumbersRuns (t : Trace) (x y n : ℕ) : Type 0 where
-  pub answer : n ≡ relation_number (relate_in t x y)
+  pub answer : n ≡ answer_number (relate_in t x y)
   pub meaning : Answers t x y (relate_in t x y)
 
 -- "Relating two runs: 21 (of the record alone), 22, 23", of the record that the bytes b hold

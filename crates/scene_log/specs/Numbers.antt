@@ -1,25 +1,25 @@
 -- The calls that answer a number: sets of relations, a whole log, a report. `answer_numbers` has the number of each answer.
 use Rattle.std.specs.Prelude.{ℕ, ◌<◌, ◌≡◌, List}
-use Rattle.relations.specs.declared.Composed.TheVariants as Composed
+use Rattle.std.specs.Prelude.{Ok}
 use Rattle.relations.specs.Sets.{conversed_of}
 use Rattle.relations.specs.Runs.{Conversed}
 use Rattle.relations.specs.Compose.{composed_of, CompositionLaw}
 use Rattle.reading.specs.declared.LogRead.{LogRead}
 use Rattle.whole_log.specs.Log.{log_of, ChecksLog}
 use Rattle.whole_log.specs.Part.{read_part}
-use Rattle.answer_numbers.specs.Numbers.{refusal, set_number, log_number, report_number, ByLayout, mode_named}
+use Rattle.answer_numbers.specs.Numbers.{refusal, answer_number, log_number, report_number, ByLayout, mode_named}
 use Rattle.report.specs.Report.{Result, report_of, Reports}
 use Rattle.pairs.specs.declared.Layout.{Layout}
 
 -- ── sets of relations ──
 -- "takes two sets and answers a set, the composition that demand 3 calls reported, or refuses with 14"
 pub record ComposesNumbers (a b n : ℕ) : Type 0 where
-  pub answer : n ≡ set_number (composed_of a b)
-  pub is_set : (d : ℕ) → composed_of a b ≡ Composed.Set d → d < 64
+  pub answer : n ≡ answer_number (composed_of a b)
+  pub is_set : (d : ℕ) → composed_of a b ≡ Ok d → d < 64
   pub demand-3 : CompositionLaw
 
 pub record ConversesNumber (a n : ℕ) : Type 0 where
-  pub answer : n ≡ set_number (conversed_of a)
+  pub answer : n ≡ answer_number (conversed_of a)
   pub meaning : Conversed a (conversed_of a)
 
 -- ── a whole log ──

@@ -6,7 +6,7 @@ ghost use Rattle.scene_log.specs.Numbers.{ChecksLogNumber, ReportsNumber};
 ghost use Rattle.scene_log.specs.InBytes.{StartsNumber, ChecksLineNumber, ChecksTalliedNumber, KeepsLogNumber};
 
 use crate::{RECORD_BYTES, TOO_SHORT};
-use pairs::{Layout, Start};
+use pairs::Layout;
 
 // The numbers of a tally.
 const TALLY_COUNTS: usize = 5;
@@ -75,10 +75,10 @@ pub fn start(layout: Layout, carried: &mut [u8], work: &mut [u8]) -> u32
     let state = s.state;
     let outcome = s.outcome;
     match outcome {
-        Start::Refused(n) => return (n as u32) * answer_numbers::REFUSAL_STEP,
-        Start::Ready => {
-            record_bytes::pack(state, carried);
-            return 0;
+        Err(refused) => answer_numbers::refusal_number(refused),
+        Ok(()) => {
+            let _ = record_bytes::pack(state, carried);
+            0
         }
     }
 }

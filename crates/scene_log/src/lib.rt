@@ -175,7 +175,7 @@ pub extern "C" fn scene_log_relate(carried: &[u8], a: u32, b: u32) -> u32
         RunNo(answer_numbers::as_byte(a)),
         RunNo(answer_numbers::as_byte(b)),
     );
-    answer_numbers::relation_number(x)
+    answer_numbers::answer_number(x)
 }
 
 // The first slip of a rule file and a record in bytes: how many runs it has, with their numbers in the first bytes; 0 for none; or the
@@ -247,7 +247,7 @@ pub extern "C" fn scene_log_compose(a: u32, b: u32) -> u32
     ensures { ComposesNumbers a b result }
 {
     let c = relations::compose(answer_numbers::as_byte(a), answer_numbers::as_byte(b));
-    answer_numbers::set_number(c)
+    answer_numbers::answer_number(c)
 }
 
 // The converses of a set's members, or the refusal.
@@ -256,7 +256,7 @@ pub extern "C" fn scene_log_converse(a: u32) -> u32
     ensures { ConversesNumber a result }
 {
     let c = relations::converse(answer_numbers::as_byte(a));
-    answer_numbers::set_number(c)
+    answer_numbers::answer_number(c)
 }
 
 // The 32-bit FNV-1a hash of the bytes.

@@ -7,6 +7,7 @@ use native.Mathlib.Omega.{arith}
 use lib.ListN.{length, take}
 use lib.Seq.{length-take-le}
 use borrow.Author.Tests.{le-ltb}
+use Rattle.std.specs.Prelude.{Ok}
 use Rattle.trace.specs.declared.Record.{Record}
 use Rattle.trace.specs.Trace.{no_trace}
 use Rattle.trace.specs.Record.{record_of}
@@ -14,7 +15,6 @@ use Rattle.trace.proofs.Grown.{no_bytes}
 use Rattle.trace.proofs.Bounds.{accepted-bounded}
 use Rattle.pairs.specs.declared.Layout.TheVariants.{Half}
 use Rattle.pairs.specs.declared.Started.{Started}
-use Rattle.pairs.specs.declared.Start.TheVariants.{Ready}
 use Rattle.pairs.specs.Layout.{work_size}
 use Rattle.pairs.specs.Pairs.{work_of}
 use Rattle.pairs.specs.Start.{start_of}
@@ -53,7 +53,7 @@ pub starts : (file w : List ℕ) (x : Rule) (a : Started) (w' : List ℕ) → ru
     → Watching file a.state zeros w'
 unfolding start_of
 starts file w x a w' e long p =
-    let all : ◌≡◌ {A = Started × List ℕ} (a, w') (record { state = record_of no_trace; outcome = Ready }, work_of Half no_trace w) = p ∙ simp (le-ltb (length w) (work_size Half) long) in
+    let all : ◌≡◌ {A = Started × List ℕ} (a, w') (record { state = record_of no_trace; outcome = Ok tt }, work_of Half no_trace w) = p ∙ simp (le-ltb (length w) (work_size Half) long) in
     let q : w' ≡ work_of Half no_trace w = ap (λ (z : Started × List ℕ). z.1) all in
     record {
       rule = x;

@@ -5,8 +5,8 @@ use Rattle.scene_log.proofs.in_layout.start.Goals as goal
 pub returns-then-carried-lt-RECORD_BYTES : goal.returns-then-carried-lt-RECORD_BYTES
 returns-then-carried-lt-RECORD_BYTES c = search starts
 
-pub returns-in-Refused : goal.returns-in-Refused
-returns-in-Refused c = search starts
+pub returns-in-Err : goal.returns-in-Err
+returns-in-Err c = search starts
 
-pub returns-in-Ready : goal.returns-in-Ready
-returns-in-Ready c = search starts
+pub returns-in-Ok : goal.returns-in-Ok
+returns-in-Ok c = search starts

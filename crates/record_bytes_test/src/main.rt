@@ -45,15 +45,10 @@ fn case_in(out: Stdout, kind: u8, text: &[u8], bytes: &mut [u8], n: usize, work:
 
 fn run(out: Stdout, input: &[u8], bytes: &mut [u8], work: &mut [u8]) {
     let mut n: usize = 0;
-    let mut at: usize = 0;
-    while at < input.len() {
-        let c = test_cases::case_at(input, at);
-        let start = c.start;
-        let end = c.end;
-        n = length(n, c.kind, &input[start..end]);
-        case_in(out, c.kind, &input[start..end], bytes, n, work);
-        at = c.next;
-    }
+    test_cases::each_case(input, |kind, text| {
+        n = length(n, kind, text);
+        case_in(out, kind, text, bytes, n, work);
+    });
 }
 
 fn main(rt: HostRuntime) {

@@ -20,7 +20,6 @@ use Rattle.rules.specs.Table.{Op, op_and, op_not, op_some, op_has, op_none, op_p
 use Rattle.rules.specs.Checks.{node_names, times_named, once_below, unless, whole_table}
 use Rattle.rules.specs.Rules.{rule_of, formula_of}
 use Rattle.rules.specs.declared.Node.{Node}
-use Rattle.std.specs.Prelude.{Err}
 use Rattle.refusals.specs.declared.Refusal.{Refusal}
 use Rattle.std.specs.Prelude.{Ok}
 use Rattle.refusals.specs.declared.Refusal.TheVariants.{RuleMark, RuleVersion, RuleCount, RuleLabel, RuleNode, RuleNotATree, RuleUnbound, RuleTooDeep}

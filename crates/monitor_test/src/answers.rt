@@ -54,29 +54,13 @@ pub fn line(out: Stdout, kind: u8, a: Tallied, work: &[u8]) {
 
 // Puts bytes at the front of a buffer that has room for them.
 pub fn copy(bytes: &[u8], to: &mut [u8]) {
-    let mut i: usize = 0;
-    while i < bytes.len() {
-        if to.len() <= i {
-            return;
-        }
-        to[i] = bytes[i];
-        i += 1;
-    }
+    let n = bytes.len().min(to.len());
+    to[..n].copy_from_slice(&bytes[..n]);
 }
 
 // Whether bytes stand at the front of a buffer.
 fn same_bytes(bytes: &[u8], buffer: &[u8]) -> bool {
-    let mut i: usize = 0;
-    while i < bytes.len() {
-        if buffer.len() <= i {
-            return false;
-        }
-        if bytes[i] != buffer[i] {
-            return false;
-        }
-        i += 1;
-    }
-    true
+    buffer.starts_with(bytes)
 }
 
 fn same(out: Stdout, yes: bool) {

@@ -114,13 +114,11 @@ fn each_line(
 ) -> Tallied {
     let mut q = s;
     let mut place: usize = 0;
-    let mut left: usize = 256;
-    while 0 < left {
+    for _ in 0..256 {
         let a = lines::line_from(log, place);
         let n = a.next;
         q = next(out, l, q, kind, file, work, log, n);
         place = a.place;
-        left -= 1;
     }
     q
 }

@@ -73,14 +73,9 @@ fn after(out: Stdout, s: State, kind: u8, text: &[u8], file: &mut [u8], area: &m
 
 fn run(out: Stdout, first: State, input: &[u8], file: &mut [u8], area: &mut [u8]) {
     let mut s = first;
-    let mut at: usize = 0;
-    while at < input.len() {
-        let c = test_cases::case_at(input, at);
-        let start = c.start;
-        let end = c.end;
-        s = after(out, s, c.kind, &input[start..end], file, area);
-        at = c.next;
-    }
+    test_cases::each_case(input, |kind, text| {
+        s = after(out, s, kind, text, file, area);
+    });
 }
 
 fn main(rt: HostRuntime) {

@@ -4,6 +4,7 @@ ghost use Rattle.atoms.specs.Emit.{level as level_of};
 ghost use Rattle.atoms.specs.Readers.{Enters};
 
 // The level of the innermost binding of a name; 255 where there is none.
+// Kept: 255 is what the table has for such a name, by `level` of specs/Emit.antt, and an Option would be turned back at each call.
 pub fn level(names: &[usize], x: usize) -> usize
     requires { length names.now ≤ 64 }
     ensures { result ≡ level_of names.now x }

@@ -6,6 +6,7 @@ ghost use Rattle.atoms.specs.Readers.{Stored, put_nots};
 use crate::names::level;
 
 // Node k of the table, if it has room.
+// Kept: three words a node, the kind by its number in a rule file: `emit`, which `Parses` and `ReadsText` stand on, has them so.
 pub fn put(table: &mut [usize], k: usize, kind: usize, a: usize, b: usize)
     requires { 192 ≤ length table.old }
     ensures { Stored table.old (put_of table.old k kind a b) table.new }

@@ -80,6 +80,7 @@ fn same_label(text: &[u8], m: usize, n: usize) -> bool
 }
 
 // The number of a label: its place among those listed, or their count.
+// Kept: the count, and no Option, is what `place_in` of the grammar answers for a label that is not listed.
 pub fn find(text: &[u8], places: &[usize], n: usize) -> usize
     ensures { Finds text.now places.now n result }
 {

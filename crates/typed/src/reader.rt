@@ -17,6 +17,10 @@ use atoms::names::enter;
 use atoms::nodes::{close_or, put, put_nots};
 use signs::{exist_sign, name, repeated, sign, skip};
 
+// Kept: the text, the names with their number and the table with its count stay parameters, since a struct is no plainer. The two
+// numbers differ from call to call, a name goes out of scope with the call that bound it, and the further sides of an or or an and
+// need the count before and behind a side.
+
 // A whole rule: one or more ands, with bars between them.
 #[cycle(readers)]
 pub fn or_rule(

@@ -77,6 +77,7 @@ fn label_places(text: &[u8], table: &[usize], n: usize, places: &mut [usize]) ->
 }
 
 // The first refusal of a table of n nodes; or how many labels it has, whose places are handed out.
+// Kept: n beside the table, since a text may have more nodes than the table has room for, which is refused here.
 pub fn decide(
     text: &[u8],
     table: &[usize],

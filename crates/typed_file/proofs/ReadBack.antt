@@ -14,7 +14,7 @@ use Rattle.rules.specs.Parts.{byte, label_count, read_mark, read_version, read_l
 use Rattle.rules.specs.Labels.{label_start, label_from, listed, read_label, read_labels, LabelOk, LabelsOk}
 use Rattle.rules.specs.Labels as Labels
 use Rattle.rules.specs.Table.{node_at, read_node, read_nodes, NodeOk}
-use Rattle.std.specs.Prelude.{Ok, Err}
+use Rattle.std.specs.Prelude.{Ok}
 use Rattle.refusals.specs.declared.Refusal.TheVariants.{RuleLabel, RuleNode}
 use Rattle.rules.proofs.Parts.{part_ok, then_at, mark_ok, version_ok, labels_ok}
 use Rattle.labels.specs.Label.{letter?, capitals, label_form?}

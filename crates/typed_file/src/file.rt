@@ -45,56 +45,51 @@ fn second_field(text: &[u8], places: &[usize], kind: usize, b: usize) -> u8
     b as u8
 }
 
+// What a file is written of: the nodes of a text's rule, and the places of its labels.
+#[derive(Clone, Copy)]
+pub struct Parts<'a> {
+    pub text: &'a [u8],
+    pub table: &'a [usize],
+    pub count: usize,
+    pub places: &'a [usize],
+}
+
 // Node i.
-fn write_node(
-    text: &[u8],
-    table: &[usize],
-    places: &[usize],
-    n: usize,
-    i: usize,
-    out: &mut [u8],
-    at: usize,
-) -> usize
-    requires fit { Fit text.now table.now n places.now }
-    requires i_lt_n { (i < n) × (at + 3 ≤ length out.old) }
-    ensures { Appends out.old at (node_bytes (texts text.now places.now) text.now table.now i) out.new result }
+fn write_node(parts: Parts<'_>, i: usize, out: &mut [u8], at: usize) -> usize
+    requires fit { Fit parts.text.now parts.table.now parts.count parts.places.now }
+    requires i_lt_n { (i < parts.count) × (at + 3 ≤ length out.old) }
+    ensures { Appends out.old at (node_bytes (texts parts.entry.text.now parts.entry.places.now) parts.entry.text.now parts.entry.table.now i) out.new result }
 {
+    let table = parts.table;
     let kind = table[3 * i];
-    let second = second_field(text, places, kind, table[3 * i + 2]);
+    let second = second_field(parts.text, parts.places, kind, table[3 * i + 2]);
     let node = [kind as u8, table[3 * i + 1] as u8, second];
     append(out, at, &node)
 }
 
 // The nodes.
-fn write_nodes(
-    text: &[u8],
-    table: &[usize],
-    places: &[usize],
-    n: usize,
-    out: &mut [u8],
-    at: usize,
-) -> usize
-    requires fit { Fit text.now table.now n places.now }
-    requires n_in_bounds { at + 3 * n ≤ length out.old }
-    ensures { Appends out.old at (nodes_bytes (texts text.now places.now) text.now table.now n) out.new result }
+fn write_nodes(parts: Parts<'_>, out: &mut [u8], at: usize) -> usize
+    requires fit { Fit parts.text.now parts.table.now parts.count parts.places.now }
+    requires n_in_bounds { at + 3 * parts.count ≤ length out.old }
+    ensures { Appends out.old at (nodes_bytes (texts parts.entry.text.now parts.entry.places.now) parts.entry.text.now parts.entry.table.now parts.entry.count) out.new result }
 {
     let mut p = at;
-    for i in 0..n {
-        p = write_node(text, table, places, n, i, out, p);
+    for i in 0..parts.count {
+        p = write_node(parts, i, out, p);
     }
     p
 }
 
 // The file: how many bytes it has.
-pub fn write_file(text: &[u8], table: &[usize], n: usize, places: &[usize], out: &mut [u8]) -> usize
-    requires fit { Fit text.now table.now n places.now }
+pub fn write_file(parts: Parts<'_>, out: &mut [u8]) -> usize
+    requires fit { Fit parts.text.now parts.table.now parts.count parts.places.now }
     requires in_bounds { 599 ≤ length out.old }
-    ensures { Appends out.old 0 (file_from text.now table.now n (texts text.now places.now)) out.new result }
+    ensures { Appends out.old 0 (file_from parts.entry.text.now parts.entry.table.now parts.entry.count (texts parts.entry.text.now parts.entry.places.now)) out.new result }
 {
-    let head = [b'R', b'U', b'L', 1, 0, places.len() as u8];
+    let head = [b'R', b'U', b'L', 1, 0, parts.places.len() as u8];
     let labels = append(out, 0, &head);
-    let count = write_labels(text, places, out, labels);
-    let size = [n as u8];
+    let count = write_labels(parts.text, parts.places, out, labels);
+    let size = [parts.count as u8];
     let nodes = append(out, count, &size);
-    write_nodes(text, table, places, n, out, nodes)
+    write_nodes(parts, out, nodes)
 }

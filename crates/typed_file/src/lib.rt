@@ -6,7 +6,7 @@
 ghost use Rattle.std.specs.Prelude.{◌≤◌, length};
 ghost use Rattle.typed_file.specs.Answer.{ReadsText};
 
-use crate::file::write_file;
+use crate::file::{Parts, write_file};
 use output::Written;
 
 mod file;
@@ -28,6 +28,14 @@ pub fn rule_from_text(text: &[u8], out: &mut [u8]) -> Written
     let mut places = [0usize; 64];
     match typed_checks::decide(text, &table[..], n, &mut places[..]) {
         Err(refusal) => Written::Refused(u8::from(refusal)),
-        Ok(m) => Written::Length(write_file(text, &table[..], n, &places[..m], out)),
+        Ok(m) => {
+            let parts = Parts {
+                text,
+                table: &table[..],
+                count: n,
+                places: &places[..m],
+            };
+            Written::Length(write_file(parts, out))
+        }
     }
 }

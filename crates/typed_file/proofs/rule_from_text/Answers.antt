@@ -12,8 +12,8 @@ returns-in_default c = answer_outside _ _ c.if-out-lt-FILE_ROOM.false _ c.in_def
 pub slice_bounds-places-end : goal.slice_bounds-places-end
 slice_bounds-places-end c = places_inside _ c.args.out.now c.if-out-lt-FILE_ROOM.false _ _ c.in-Some.ensures _ _ _ c.decide.ensures _ c.in-Ok.is
 
-pub slice_bounds-write_file-end-in-Ok : goal.slice_bounds-write_file-end-in-Ok
-slice_bounds-write_file-end-in-Ok c = places_count _ c.args.out.now c.if-out-lt-FILE_ROOM.false _ _ c.in-Some.ensures _ _ _ c.decide.ensures _ c.in-Ok.is
+pub slice_bounds-parts-end-in-Ok : goal.slice_bounds-parts-end-in-Ok
+slice_bounds-parts-end-in-Ok c = places_count _ c.args.out.now c.if-out-lt-FILE_ROOM.false _ _ c.in-Some.ensures _ _ _ c.decide.ensures _ c.in-Ok.is
 
 pub write_file-requires : goal.write_file-requires
 write_file-requires c = record { fit = answer_fits _ c.args.out.now c.if-out-lt-FILE_ROOM.false _ _ c.in-Some.ensures _ _ _ c.decide.ensures _ c.in-Ok.is; in_bounds = search rules }

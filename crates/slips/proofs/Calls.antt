@@ -1,9 +1,8 @@
 -- The order of refusals that both calls keep: the rule's, the form's, the record's; then what is said of the record's logs.
 use Prim.Native.Nat.{ℕ}
-use mathlib.Core.Path.{◌≡◌, refl, sym, subst, ap, ◌∙◌}
+use mathlib.Core.Path.{◌≡◌, sym, subst, ap, ◌∙◌}
 use mathlib.Core.Bool.{Bool, true, false}
 use mathlib.Core.List.{List}
-use native.Mathlib.Omega.{arith}
 use Rattle.std.proofs.Common.{Option, None}
 use Rattle.lists.specs.Tells.{Tells}
 use Rattle.trace.specs.declared.Record.{Record}
@@ -15,7 +14,6 @@ use Rattle.refusals.specs.Refusal.{number}
 use Rattle.refusals.specs.declared.Refusal.{Refusal}
 use Rattle.rules.specs.Formula.{Formula}
 use Rattle.rules.specs.Rules.{rule_of, formula_of, ReadsRule}
-use Rattle.rules.proofs.Parts.{not_ok, err_inj}
 use Rattle.slip_form.specs.Form.{SlipForm}
 use Rattle.slip_form.specs.Chain.{slip_form?, ChainAt, TopOf}
 use Rattle.slip_form.proofs.Forms.{form_tells}

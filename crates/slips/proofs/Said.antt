@@ -4,7 +4,6 @@ use mathlib.Core.Path.{◌≡◌, refl, sym, ap, subst, ◌∙◌}
 use mathlib.Core.Logic.{◌↔◌, ⊎_elim}
 use mathlib.Core.Bool.{Bool, true, false, ◌&&◌, cond}
 use mathlib.Core.List.{List, [], ◌∷◌}
-use native.Mathlib.Omega.{arith}
 use lib.Dec.{ltb}
 use lib.ListN.{length}
 use Rattle.lists.specs.Lists.{all?}
@@ -23,10 +22,8 @@ use Rattle.slip_form.specs.Slips.{bind_each, unbound, Each, Fits, Passes, slip_r
 use Rattle.slip_form.specs.Chain.{some?}
 use Rattle.slip_form.proofs.Forms.{without_some}
 use Rattle.slip_search.specs.First.{First, of_runs, Tidy}
-use Rattle.std.specs.Prelude.{Option, Some, None, Result, Ok, Err}
-use Rattle.refusals.specs.declared.Refusal.{Refusal}
+use Rattle.std.specs.Prelude.{Ok, Err}
 use Rattle.refusals.specs.declared.Refusal.TheVariants.{NoFinishedRun}
-use Rattle.refusals.specs.Refusal.{RefusedWith}
 use Rattle.refusals.proofs.Answers.{refused_with, refused_ok}
 use Rattle.slips.specs.Answers.{Passing, with_slip, without_slip, first_runs, found_in, fits?, passing_in, FindsIn, ReadsIn}
 use Rattle.slips.proofs.Meaning.{PassesFrom, either_before, holds_of, may_of, run_of, passes_satisfies, satisfies_passes, first_passes, first_earliest, first_is}

@@ -186,14 +186,9 @@ fn run(out: Stdout, input: &[u8], file: &mut [u8], log: &mut [u8]) {
         verdicts: 260,
         text: 2100,
     };
-    let mut at: usize = 0;
-    while at < input.len() {
-        let c = test_cases::case_at(input, at);
-        let start = c.start;
-        let end = c.end;
-        s = after(out, s, file, log, c.kind, &input[start..end]);
-        at = c.next;
-    }
+    test_cases::each_case(input, |kind, text| {
+        s = after(out, s, file, log, kind, text);
+    });
 }
 
 fn main(rt: HostRuntime) {

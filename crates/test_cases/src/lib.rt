@@ -10,15 +10,6 @@ ghost use Rattle.input.specs.Counts.{IsPrefixLen};
 
 use std::io::{Read, Stdin};
 
-// One case: its kind, where its text stands in the input, and where the next case begins.
-#[derive(Clone, Copy)]
-pub struct Case {
-    pub kind: u8,
-    pub start: usize,
-    pub end: usize,
-    pub next: usize,
-}
-
 // What a byte of a text is part of: a backslash that is read, `\x`, its first digit, or a byte that the text has.
 #[derive(Clone, Copy)]
 enum Reading {
@@ -42,40 +33,6 @@ pub fn each_case<F: FnMut(u8, &[u8])>(input: &[u8], mut f: F)
         if let Some(kind) = line.first() {
             f(*kind, text_of(line));
         }
-    }
-}
-
-// The place of the next LF, or the end.
-fn line_end(input: &[u8], start: usize) -> usize
-    requires { start ≤ length input.now }
-    ensures { (start ≤ result) × (result ≤ length input.now) }
-{
-    match input[start..].iter().position(|c| *c == b'\n') {
-        Some(n) => start + n,
-        None => input.len(),
-    }
-}
-
-// The case that begins at a place.
-pub fn case_at(input: &[u8], at: usize) -> Case
-    requires { at < length input.now }
-    ensures { (result.start ≤ result.end) × (result.end ≤ length input.now) × (at < result.next) }
-{
-    let kind = input[at];
-    let end = line_end(input, at);
-    if end - at < 2 {
-        return Case {
-            kind: kind,
-            start: end,
-            end: end,
-            next: end + 1,
-        };
-    }
-    Case {
-        kind: kind,
-        start: at + 2,
-        end: end,
-        next: end + 1,
     }
 }
 

@@ -87,7 +87,7 @@ def parameters(params):
     return out
 
 
-NONE_LIKE = r"Refused|Nothing|Missing|Failed|Outside|Bad|Other|NoBook|DoesNot|Fails"
+NONE_LIKE = r"Refused|Nothing|Missing|Failed|Outside|Bad|Other|NoBook|DoesNot"
 
 
 def point1(all_files):

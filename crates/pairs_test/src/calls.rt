@@ -3,7 +3,6 @@ use super::area;
 use pairs::Layout;
 use refusals::Refusal;
 use std::io::Stdout;
-use refusals::Refusal;
 use trace::{Record, RunNo};
 
 // Writes how a record starts.

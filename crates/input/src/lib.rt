@@ -78,7 +78,7 @@ pub fn read_rule<F: Files>(files: &F, buf: &mut [u8]) -> io::Result<usize>
 // Says on standard error that a read failed, and why, if one did; the name is that of the program and of what it reads.
 pub fn complain(a: io::Result<usize>, name: &[u8], error: Stderr) {
     if let Err(e) = a {
-        fail(name, e, error);
+        fail(name, Some(e), error);
     }
 }
 
@@ -106,10 +106,13 @@ fn put_error(e: io::Error, buf: &mut [u8; 128]) -> usize
     room.saturating_sub(left)
 }
 
-// Writes a line to standard error: what failed, as the caller names it, a colon and why.
-pub fn fail(what: &[u8], why: io::Error, error: Stderr) {
+// Writes a line to standard error: what failed, as the caller names it, a colon and why, if that is known.
+pub fn fail(what: &[u8], why: Option<io::Error>, error: Stderr) {
     let mut text = [0u8; 128];
-    let size = put_error(why, &mut text);
+    let size = match why {
+        None => 0,
+        Some(e) => put_error(e, &mut text),
+    };
     let told = told_len(&text[..size]);
     let _ = error.write_all(what);
     let _ = error.write_all(b": ");

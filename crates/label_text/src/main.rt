@@ -95,7 +95,7 @@ fn print_text(
     requires { PrintsText a book.now b label.now text.now }
 {
     if let Err(e) = streams.output.write_all(text) {
-        input::fail(b"label_text: standard output", e, streams.error);
+        input::fail(b"label_text: standard output", Some(e), streams.error);
     }
 }
 

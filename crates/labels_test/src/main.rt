@@ -63,13 +63,16 @@ fn label_after(out: Stdout, x: Label, kind: u8, text: &[u8]) -> Label {
 fn run(out: Stdout, input: &[u8]) {
     let mut t = table::empty();
     let mut x = labels::no_label();
-    test_cases::each_case(input, |kind, text|
-        requires { Readable t }
-        ensures { Readable t.exit }
-    {
-        x = label_after(out, x, kind, text);
-        t = table::after(out, t, kind, text);
-    });
+    test_cases::each_case(
+        input,
+        |kind, text|
+            requires { Readable t }
+            ensures { Readable t.exit }
+        {
+            x = label_after(out, x, kind, text);
+            t = table::after(out, t, kind, text);
+        },
+    );
 }
 
 fn main(rt: HostRuntime) {

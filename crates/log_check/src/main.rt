@@ -145,12 +145,19 @@ fn hand_on(
     requires { Prints word.now r rule.now l log.now text.now }
 {
     if let Err(e) = streams.output.write_all(text) {
-        input::fail(b"log_check: standard output", e, streams.error);
+        input::fail(b"log_check: standard output", Some(e), streams.error);
     }
 }
 
 // Prints what is to be printed of the word, the two buffers and what the two reads answered.
-fn print(streams: Streams, word: &[u8], rule: &[u8], r: io::Result<usize>, log: &[u8], l: io::Result<usize>)
+fn print(
+    streams: Streams,
+    word: &[u8],
+    rule: &[u8],
+    r: io::Result<usize>,
+    log: &[u8],
+    l: io::Result<usize>,
+)
     requires { Fills r rule.now × Fills l log.now }
 {
     let mut work = [0u8; HALF_BYTES];

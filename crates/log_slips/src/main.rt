@@ -16,10 +16,10 @@ ghost use Rattle.log_slips.specs.Printed.{rule_room, log_room, runs_text, slip_t
 ghost use Rattle.log_slips.specs.Walk.{found_text, text_size, Walked, Refuses, Stops, TakesLine, Steps, ShowsLines};
 
 use input::Streams;
+use refusals::Refusal;
 use slip_form::Slip;
 use std::io;
 use std::rt::Files;
-use refusals::Refusal;
 use trace::Record;
 
 // One byte more than the longest rule file, so that a longer one is seen to be too long.
@@ -230,7 +230,7 @@ fn hand_on(
     requires { Prints r rule.now l log.now text.now }
 {
     if let Err(e) = streams.output.write_all(text) {
-        input::fail(b"log_slips: standard output", e, streams.error);
+        input::fail(b"log_slips: standard output", Some(e), streams.error);
     }
 }
 

@@ -1,9 +1,9 @@
 // The calls, on what they are handed.
 use super::{answers, handed};
 use lines::Span;
-use refusals::Refusal;
 use monitor::{Mode, Tallied};
 use pairs::Layout;
+use refusals::Refusal;
 use std::io::Stdout;
 
 // The call on a line without a tally, which stays.

@@ -49,7 +49,7 @@ fn print_file(streams: Streams, text: &[u8], a: io::Result<usize>, file: &[u8])
     requires { PrintsFile a text.now file.now }
 {
     if let Err(e) = streams.output.write_all(file) {
-        input::fail(b"rule_from_text: standard output", e, streams.error);
+        input::fail(b"rule_from_text: standard output", Some(e), streams.error);
     }
 }
 

@@ -29,7 +29,7 @@ pub struct Checked {
 }
 
 // One line on a record and a work area in the layout, with a rule file: the new record and the verdict, or the refusal and the same record.
-// Kept: the record and the buffers are parameters, as of the call for C, whose contract names each of them.
+// Kept: the record and the buffers are parameters, which `ChecksLine` and docs/API.md name one by one.
 pub fn check_line(layout: Layout, file: &[u8], r: Record, work: &mut [u8], line: &[u8]) -> Checked
     ensures { ChecksLine layout file.now r work.old line.now result work.new }
 {

@@ -30,7 +30,7 @@ fn is_chain(file: &[u8], first: usize, heights: &[u8], top: usize) -> bool
 {
     let mut node = top;
     let mut x = node_at(file, first, node);
-    // Kept: the new form is no plainer. The walk goes down a chain of nodes, which no range or iterator gives.
+    // Kept: no plainer. The walk goes down a chain of nodes; `successors` with a `last` would hide that the node at its end is wanted.
     while x.kind == 3 {
         node = x.b;
         x = node_at(file, first, node);

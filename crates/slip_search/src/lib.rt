@@ -134,7 +134,7 @@ pub fn search(
     };
     let mut node = top;
     let mut x = node_at(file, first, node);
-    // Kept: the new form is no plainer. The walk goes down a chain of nodes, which no range or iterator gives.
+    // Kept: no plainer. The walk goes down a chain of nodes and may end at each; `successors` would need a step that fails.
     while x.kind == 3 {
         let v = x.a;
         let child = x.b;

@@ -32,7 +32,7 @@ pub struct Tallied {
 }
 
 // One line on a record and a work area in the layout, with a rule file and a tally, which is updated where the line is taken.
-// Kept: the record, the tally and the buffers are parameters, as of the call for C, whose contract names each of them.
+// Kept: the record, the tally and the buffers are parameters, which `ChecksTallied` and docs/API.md name one by one.
 pub fn check_line_tallied(
     layout: Layout,
     file: &[u8],

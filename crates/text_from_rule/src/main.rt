@@ -48,7 +48,7 @@ fn print_text(streams: Streams, rule: &[u8], a: io::Result<usize>, text: &[u8])
     requires { PrintsText a rule.now text.now }
 {
     if let Err(e) = streams.output.write_all(text) {
-        input::fail(b"text_from_rule: standard output", e, streams.error);
+        input::fail(b"text_from_rule: standard output", Some(e), streams.error);
     }
 }
 

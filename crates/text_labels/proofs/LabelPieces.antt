@@ -6,7 +6,7 @@ use mathlib.Core.List.{List, [], ◌∷◌, ◌++◌, append_assoc}
 use native.Mathlib.Omega.{arith}
 use native.Mathlib.Numerals.{add-one, one-add}
 use lib.Dec.{eqb}
-use lib.ListN.{length, get_or, take, drop, length-drop, length-map, drop_of_length-le, get_or-eq_default}
+use lib.ListN.{length, get_or, take, drop, length-drop, length-take, length-map, drop_of_length-le, get_or-eq_default}
 use lib.Seq.{take-suc, drop-cons, get_or-drop}
 use borrow.Author.Tests.{eq-eqb, ne_eqb, lt-ltb, le-ltb}
 use Rattle.std.specs.Prelude.{Option, position, unwrap_or}
@@ -20,7 +20,7 @@ use Rattle.labels.specs.Label.{capital, capitals, label_form?}
 use Rattle.labels.proofs.Capitals.{capital_sign}
 use Rattle.typed_formula.specs.Meaning.{label_text}
 use Rattle.typed_grammar.specs.File.{place_in}
-use Rattle.text_labels.specs.Pieces.{EndsLabel, Cut, texts, Finds, good_labels?}
+use Rattle.text_labels.specs.Pieces.{EndsLabel, CutAt, Cut, texts, Finds, good_labels?}
 
 -- ── where a label ends ──
 pub record Scanned (text : List ℕ) (at p : ℕ) : Type 0 where
@@ -73,11 +73,16 @@ module _ (text : List ℕ) (at p : ℕ) (s : Scanned text at p) where
           inside = omega arith;
         }
 
+stands : (text : List ℕ) (from end : ℕ) → EndsLabel text from end → CutAt text (take (end - from) (drop from text)) from
+stands text from end e =
+    let l : length (take (end - from) (drop from text)) ≡ end - from = rw length-take (omega (arith, length-drop from text, e.ahead, e.inside)) in
+    record { inside = omega (arith, l, e.ahead, e.inside); piece = ap (λ (k : ℕ). take k (drop from text)) (sym l) }
+
 pub cut : (text : List ℕ) (n from end : ℕ) → (from ≡ length text - n) × (from ≤ length text) → EndsLabel text from end → Cut text n (take (end - from) (drop from text))
 unfolding label_text
 cut text n from end f e =
     let b : capitals (take (end - from) (drop from text)) ≡ label_text text n = ap capitals e.bytes ∙ ap (λ (k : ℕ). capitals (up_to 39 (drop k text))) f.0 in
-    record { bytes = b; size = sym (length-map (take (end - from) (drop from text)) capital) ∙ ap length b }
+    record { bytes = b; size = sym (length-map (take (end - from) (drop from text)) capital) ∙ ap length b; stands = subst (CutAt text (take (end - from) (drop from text))) f.0 (stands text from end e) }
 
 -- ── two labels ──
 pub byte_inside : (text : List ℕ) (p r : ℕ) → r ≡ capital (get_or text p 0) → p < length text → r ≡ get_or (capitals text) p 39

@@ -1,6 +1,6 @@
 -- How the code works, not what it means.
 -- Labels as pieces of the text, and lists of labels.
-use Rattle.std.specs.Prelude.{ℕ, ◌-◌, ◌≤◌, ◌≡◌, Bool, true, ◌&&◌, List, [], ◌∷◌, length, take, drop}
+use Rattle.std.specs.Prelude.{ℕ, ◌+◌, ◌-◌, ◌≤◌, ◌≡◌, Bool, true, ◌&&◌, List, [], ◌∷◌, length, take, drop}
 use Rattle.lists.specs.Lists.{up_to}
 use Rattle.labels.specs.Label.{capitals, label_form?}
 use Rattle.typed_formula.specs.Meaning.{label_text}
@@ -12,10 +12,15 @@ pub record EndsLabel (text : List ℕ) (at r : ℕ) : Type 0 where
   pub ahead : at ≤ r
   pub inside : r ≤ length text
 
--- the bytes of a label as it is written
+-- the bytes of a label as it is written: the piece of the text that starts at place p
+pub record CutAt (text : List ℕ) (x : List ℕ) (p : ℕ) : Type 0 where
+  pub inside : p + length x ≤ length text
+  pub piece : x ≡ take (length x) (drop p text)
+
 pub record Cut (text : List ℕ) (n : ℕ) (x : List ℕ) : Type 0 where
   pub bytes : capitals x ≡ label_text text n
   pub size : length x ≡ length (label_text text n)
+  pub stands : CutAt text x (length text - n)
 
 -- the labels at places
 abbrev pub texts : List ℕ → List ℕ → List (List ℕ)

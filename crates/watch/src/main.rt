@@ -136,7 +136,7 @@ fn way_of(o: Outcome) -> Way
 // Writes a text to standard output, or says on standard error that this fails.
 fn hand_on(streams: Streams, text: &[u8]) -> bool {
     if let Err(e) = streams.output.write_all(text) {
-        input::fail(b"watch: standard output", e, streams.error);
+        input::fail(b"watch: standard output", Some(e), streams.error);
         return false;
     }
     true

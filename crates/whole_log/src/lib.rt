@@ -63,7 +63,7 @@ fn read_part(
 }
 
 // A whole log with a rule file: the record of the lines that are taken, their verdict bytes, and how the reading ended.
-// Kept: the buffers are parameters, as of the call for C, whose contract names each of them.
+// Kept: the buffers are parameters, which `ChecksPart` and docs/API.md name one by one.
 pub fn check_log(
     layout: Layout,
     mode: Mode,

@@ -6,7 +6,8 @@ use mathlib.Core.Option.{Option, none, some}
 use native.Mathlib.Omega.{arith}
 use lib.ListN.{length, set}
 use borrow.Author.Tests.{lt-ltb, le-ltb, eq-eqb, ne_eqb}
-use Rattle.std.specs.Prelude.{Result}
+use Rattle.std.specs.Prelude.{Result, Ok, Err}
+use Rattle.refusals.specs.Refusal.{number}
 use Rattle.refusals.specs.declared.Refusal.{Refusal}
 use Rattle.trace.specs.declared.Record.{Record}
 use Rattle.pairs.specs.declared.Layout.{Layout}
@@ -24,8 +25,20 @@ use Rattle.whole_log.proofs.Part.{not_full}
 use Rattle.report.specs.declared.Reported.{Reported}
 use Rattle.record_bytes.specs.Form.{record_size}
 use Rattle.record_bytes.specs.Calls.{pack_of, Packs}
-use Rattle.answer_numbers.specs.Numbers.{layout_named, NamesMode, ByNamed, ByLayout, outcome_number, ending_number, log_number, report_number, ReportFits, written_number, WrittenFits}
+use Rattle.answer_numbers.specs.Numbers.{refusal, NumberedAs, answer_number, layout_named, NamesMode, ByNamed, ByLayout, outcome_number, ending_number, log_number, report_number, ReportFits, written_number, WrittenFits}
 use Rattle.answer_numbers.specs.InBytes.{as_byte, record_in, bytes_after, line_numbered, tally_in, numbers_after, tallied_numbered, bytes_left, log_kept}
+
+-- ── refusals ──
+-- an error that tells its number as a refusal does
+abbrev pub TellsNumber : Refusal → ℕ → Type 0
+TellsNumber e c = c ≡ number e
+
+pub refusal_same : (e : Refusal) (n : ℕ) → (c : ℕ) × TellsNumber e c × (n ≡ refusal c) → n ≡ refusal (number e)
+refusal_same e n (c, told, is) = is ∙ ap refusal told
+
+pub numbered_same : (r : Result ℕ Refusal) (n : ℕ) → NumberedAs TellsNumber (λ (k : ℕ). k) r n → n ≡ answer_number r
+numbered_same (Ok x) n w = w
+numbered_same (Err e) n (c, told, is) = is ∙ ap refusal told
 
 -- ── numbers in a byte ──
 pub byte_above : (a : ℕ) → 255 < a → 255 ≡ as_byte a

@@ -20,6 +20,11 @@ use Rattle.report.specs.declared.Reported.{Reported}
 abbrev pub refusal : ℕ → ℕ
 refusal n = n * 65536
 
+-- the number of an answer whose errors tell a number: of the value, or of the refusal of the number that the error tells
+abbrev pub NumberedAs : {A E : Type 0} → (E → ℕ → Type 0) → (A → ℕ) → Result A E → ℕ → Type 0
+NumberedAs tells value (Ok x) n = n ≡ value x
+NumberedAs tells value (Err e) n = (c : ℕ) × tells e c × (n ≡ refusal c)
+
 -- how an answer is read: its refusal, 0 for none, and its value
 abbrev pub refusal_in : ℕ → ℕ
 refusal_in n = n / 65536

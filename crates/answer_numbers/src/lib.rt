@@ -5,16 +5,14 @@
 // number, and `mode_of` a mode.
 #![tactic(auto)]
 
-ghost use Rattle.std.specs.Prelude.{◌≡◌, ◌≤◌, length};
+ghost use Rattle.std.specs.Prelude.{◌≡◌, ℕ, ◌≤◌, length};
 ghost use Rattle.std.proofs.Math.Option.{some};
-ghost use Rattle.refusals.specs.Refusal.{number};
-ghost use Rattle.answer_numbers.specs.Numbers.{refusal, layout_named, NamesMode, answer_number, log_number, report_number, ReportFits, written_number, WrittenFits};
+ghost use Rattle.answer_numbers.specs.Numbers.{refusal, layout_named, NamesMode, NumberedAs, log_number, report_number, ReportFits, written_number, WrittenFits};
 ghost use Rattle.answer_numbers.specs.InBytes.{as_byte, line_numbered, tally_from, tally_in, tallied_numbered, log_kept};
 
 use output::Written;
 use pairs::Layout;
 use reading::{Ending, LogRead};
-use refusals::Refusal;
 use report::Reported;
 use single::{Checked, Outcome};
 use tallies::{Tallied, Tally};
@@ -49,16 +47,17 @@ pub fn mode_of(n: u32) -> Mode
     Mode::FirstFailure
 }
 
-// The number of a refusal.
-pub fn refusal_number(refused: Refusal) -> u32
-    ensures { result ≡ refusal (number refused) }
+// The number of a refusal, by any error that tells it.
+pub fn refusal_number<E: Into<u8>>(refused: E) -> u32
+    ensures { (c : ℕ) × E.Into.converts refused c × (result ≡ refusal c) }
 {
-    u32::from(u8::from(refused)) * REFUSAL_STEP
+    let number: u8 = refused.into();
+    u32::from(number) * REFUSAL_STEP
 }
 
-// The number of a set or of a relation, or the refusal.
-pub fn answer_number(answered: Result<u8, Refusal>) -> u32
-    ensures { result ≡ answer_number answered }
+// The number of a set or of a relation, or the refusal, whose number the error tells.
+pub fn answer_number<E: Into<u8>>(answered: Result<u8, E>) -> u32
+    ensures { NumberedAs E.Into.converts (λ n. n) answered result }
 {
     match answered {
         Ok(n) => u32::from(n),

@@ -75,10 +75,10 @@ pub fn read_rule<F: Files>(files: &F, buf: &mut [u8]) -> io::Result<usize>
     read_file(files, b"rule.rul", buf)
 }
 
-// Says on standard error that a read failed, and why, if one did; the name is that of the program and of what it reads.
-pub fn complain(a: io::Result<usize>, name: &[u8], error: Stderr) {
+// Says on standard error that a read failed, and why, if that is known; the name is that of the program and of what it reads.
+pub fn complain<E: Into<Option<io::Error>>>(a: Result<usize, E>, name: &[u8], error: Stderr) {
     if let Err(e) = a {
-        fail(name, Some(e), error);
+        fail(name, e.into(), error);
     }
 }
 

@@ -30,7 +30,7 @@ pub at_none : (v : List InstantNo) (l : ℕ) → (0 < l → length v ≤ l - 1) 
 at_none v zero h = refl
 at_none v (suc k) h = let past : length v ≤ suc k - 1 = h (omega arith) in sym (ap (λ (x : InstantNo). x.0) (get_or-eq_default v (instant_no 0) (omega arith)))
 
-at_read : (v : List InstantNo) (l : ℕ) (x : InstantNo) → (l ≡ 0 → ⊥) → x ≡ get_or v (l - 1) (instant_no 0) → x.0 ≡ instant_at v l
+pub at_read : (v : List InstantNo) (l : ℕ) (x : InstantNo) → (l ≡ 0 → ⊥) → x ≡ get_or v (l - 1) (instant_no 0) → x.0 ≡ instant_at v l
 at_read v zero x n e = absurd (n refl)
 at_read v (suc k) x n e = let z : suc k - 1 ≡ k = omega arith in ap (λ (y : InstantNo). y.0) e ∙ ap (λ (j : ℕ). (get_or v j (instant_no 0)).0) z
 
@@ -38,7 +38,7 @@ pub at_some : (v : List InstantNo) (l : ℕ) (x : InstantNo) → 0 < l → slice
 at_some v l x h e = at_read v l x (λ z. omega arith) (sym (get_or_from_slice_get v (l - 1) x (instant_no 0) e))
 
 -- and from a column
-instant_read : (v : List ℕ) (l : ℕ) → (l ≡ 0 → ⊥) → get_or v (l - 1) 0 ≡ instant_at (instants_in v) l
+pub instant_read : (v : List ℕ) (l : ℕ) → (l ≡ 0 → ⊥) → get_or v (l - 1) 0 ≡ instant_at (instants_in v) l
 unfolding instants_in
 instant_read v l n = at_read (instants_in v) l (instant_no (get_or v (l - 1) 0)) n (sym (get_or-map instant_no v (l - 1) 0))
 

@@ -1,31 +1,16 @@
 -- Byte order, capital by capital: what is left of two labels decides, as long as the capitals passed are the same.
-use Prim.Native.Nat.{ℕ, suc, ◌+◌, ◌<◌, ◌≤◌, min}
-use mathlib.Core.Path.{◌≡◌, refl, sym, ap, ◌∙◌}
+use Prim.Native.Nat.{ℕ, ◌+◌, ◌<◌, ◌≤◌, min}
+use mathlib.Core.Path.{◌≡◌, refl, sym, ◌∙◌}
 use mathlib.Core.Bool.{true, false, ◌&&◌, ◌||◌}
 use mathlib.Core.List.{List, [], ◌∷◌}
 use native.Mathlib.Omega.{arith}
-use native.Mathlib.Numerals.{add-one}
 use lib.Dec.{eqb, ltb}
-use lib.ListN.{length, get_or, drop, drop_of_length-le, length-map}
-use lib.Seq.{drop-cons}
+use lib.ListN.{length, get_or, drop}
 use borrow.Author.Tests.{eq-eqb, ne_eqb, lt-ltb, le-ltb}
 use Rattle.labels.specs.Label.{capital, capitals}
-use Rattle.labels.proofs.Capitals.{capitals_at_lem}
+use Rattle.labels.proofs.Compared.{capitals-from, capitals_end}
 use Rattle.lists.proofs.Cases.{either_lt}
 use Rattle.label_book.specs.Reading.{before?}
-
--- the capitals from i on: the one at i, and the others
-module _ (s : List ℕ) (i : ℕ) where
-  capitals-from : (x : ℕ) → i < length s → x ≡ capital (get_or s i 0) → drop i (capitals s) ≡ x ∷ drop (i + 1) (capitals s)
-  capitals-from x h p =
-      let m : length (capitals s) ≡ length s = length-map s capital in
-      drop-cons (capitals s) i 0 (omega arith) ∙ (ap (λ (z : ℕ). z ∷ drop (suc i) (capitals s)) (capitals_at_lem s i ∙ sym p) ∙ rw (add-one i) refl)
-
-  capitals_end : length s ≤ i → drop i (capitals s) ≡ []
-  capitals_end h =
-      let m : length (capitals s) ≡ length s = length-map s capital in
-      let k : length (capitals s) ≤ i = omega arith in
-      drop_of_length-le (capitals s) k
 
 module _ (s t : List ℕ) (i : ℕ) (e : before? (drop i (capitals s)) (drop i (capitals t)) ≡ before? (capitals s) (capitals t)) where
   -- one of the two has ended

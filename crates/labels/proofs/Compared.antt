@@ -1,17 +1,33 @@
 -- Two labels as they are written, compared capital by capital.
-use Prim.Native.Nat.{ℕ, zero, suc, ◌<◌}
-use mathlib.Core.Path.{◌≡◌, refl, ap}
+use Prim.Native.Nat.{ℕ, zero, suc, ◌+◌, ◌<◌, ◌≤◌}
+use mathlib.Core.Path.{◌≡◌, refl, sym, ap, ◌∙◌}
 use mathlib.Core.Bool.{Bool, true, false, ◌&&◌}
 use mathlib.Core.List.{List, [], ◌∷◌}
 use mathlib.Core.Logic.{◌≢◌}
 use native.Mathlib.Omega.{arith}
+use native.Mathlib.Numerals.{add-one}
 use lib.Dec.{eqb}
-use lib.ListN.{length}
+use lib.ListN.{length, get_or, drop, drop_of_length-le, length-map}
+use lib.Seq.{drop-cons}
 use borrow.Author.Tests.{eq-eqb, ne_eqb}
 use Rattle.std.specs.Bool.{MatchBool}
 use Rattle.std.specs.List.{zip, AllWithin, HoldsAt}
 use Rattle.lists.specs.Lists.{same?}
 use Rattle.labels.specs.Label.{capital, capitals}
+use Rattle.labels.proofs.Capitals.{capitals_at_lem}
+
+-- the capitals from i on: the one at i, and the others
+module _ (s : List ℕ) (i : ℕ) where
+  pub capitals-from : (x : ℕ) → i < length s → x ≡ capital (get_or s i 0) → drop i (capitals s) ≡ x ∷ drop (i + 1) (capitals s)
+  capitals-from x h p =
+      let m : length (capitals s) ≡ length s = length-map s capital in
+      drop-cons (capitals s) i 0 (omega arith) ∙ (ap (λ (z : ℕ). z ∷ drop (suc i) (capitals s)) (capitals_at_lem s i ∙ sym p) ∙ rw (add-one i) refl)
+
+  pub capitals_end : length s ≤ i → drop i (capitals s) ≡ []
+  capitals_end h =
+      let m : length (capitals s) ≡ length s = length-map s capital in
+      let k : length (capitals s) ≤ i = omega arith in
+      drop_of_length-le (capitals s) k
 
 abbrev pub Alike : ℕ × ℕ → Type 0
 Alike p = capital p.0 ≡ capital p.1

@@ -43,7 +43,7 @@ label_refl x = simp (eq-eqb x.length x.length refl) (same_refl x.bytes)
 abbrev pub label_same : Label → Label → Bool
 label_same x y = pointwise eqb x.bytes y.bytes && eqb x.length y.length
 
-label_decides : (x y : Label) → Decides (label_same x y) (x ≡ y)
+pub label_decides : (x y : Label) → Decides (label_same x y) (x ≡ y)
 label_decides x y =
     let bytes = slice_eq-Decides Decides-eqb x.bytes y.bytes (pointwise eqb x.bytes y.bytes) refl in (
       λ e.

@@ -36,7 +36,7 @@ same_number_lem b c d p q = let e : refused c ≡ refused d = sym p ∙ q in cc
 same_trace : (b : Answer) (t u : Trace) → b ≡ next t → b ≡ next u → t ≡ u
 same_trace b t u p q = let e : next t ≡ next u = sym p ∙ q in cc
 
-module _ (line : List ℕ) (r : Record) (s : Said) (said : s ≡ said_as (length line) (event_of line)) (a : Stepped) (took : TakesEvent r s a) where
+module _ (line : List ℕ) (r : Record) (s : Said Refusal) (said : s ≡ said_as (length line) (event_of line)) (a : Stepped Refusal) (took : TakesEvent r s a) where
   answered : (log : List ℕ) (t : Trace) → Accepted log t → r ≡ record_of t → a ≡ answer_of t (run_of t (event_of line)) (step (next t) line)
   answered log t acc e = steps_line r line s a said took t (accepted-bounded log t acc) e
 

@@ -1,5 +1,5 @@
 -- The numbered list of refusals.
-use Rattle.std.specs.Prelude.{◌≡◌, ℕ, Result, Err}
+use Rattle.std.specs.Prelude.{◌≡◌, ℕ, Result, Ok, Err}
 use Rattle.refusals.specs.declared.Refusal.{Refusal}
 use Rattle.refusals.specs.declared.Refusal.TheVariants.{RuleEndsEarly, RuleMark, RuleVersion, RuleCount, RuleLabel, RuleNode, RuleTooLong, RuleNotATree, RuleUnbound, RuleTooDeep, LineForm, LineId, LineLabel, NoSet, StillOpen, NeverBegun, NoneOpen, TooManyRuns, TooManyLabels, ShortBuffer, NoRecord, NoFinishedRun, SameRun, NoTally, RuleGrammar, RuleNoSlips, BookForm}
 
@@ -36,3 +36,10 @@ number BookForm = 27
 -- a call answers the refusal of this number
 abbrev pub RefusedWith : {A : Type 0} → ℕ → Result A Refusal → Type 0
 RefusedWith c r = (e : Refusal) × ((r ≡ Err e) × (number e ≡ c))
+
+-- an answer told with errors of another type: what a refusal gives there stands in its place
+abbrev pub ToldAs : {A E : Type 0} → (Refusal → E → Type 0) → Result A Refusal → Result A E → Type 0
+ToldAs gives (Ok x) (Ok y) = y ≡ x
+ToldAs gives (Err e) (Err d) = gives e d
+ToldAs gives (Ok x) (Err d) = ⊥
+ToldAs gives (Err e) (Ok y) = ⊥

@@ -27,7 +27,7 @@ use Rattle.single.specs.Line.{judged, refusing, line_after}
 use Rattle.single.specs.Step.{Advances}
 use Rattle.single.proofs.LineMeans.{by_line_lem}
 
-module _ (lay : Layout) (r : Record) (w line : List ℕ) (a : Stepped) (v : List ℕ) (f : TakesLine lay r w line a v) where
+module _ (lay : Layout) (r : Record) (w line : List ℕ) (a : Stepped Refusal) (v : List ℕ) (f : TakesLine lay r w line a v) where
   -- the step of a taken line, for a log that leaves what is handed in
   taken_step : (log : List ℕ) (t : Trace) (l : Left lay log t r w) (z : RunNo) → a.outcome ≡ Ok z → TakenStep t (run_of t (event_of line)) (step (next t) line) a (f log t l).answer z
   taken_step log t l z o = step-taken t (run_of t (event_of line)) (step (next t) line) a (f log t l).answer z o

@@ -3,6 +3,7 @@
 use Prim.Native.Nat.{ℕ, suc, ◌≤◌}
 use mathlib.Core.Path.{◌≡◌, refl, sym, ap, subst, ◌∙◌}
 use mathlib.Core.Logic.{◌↔◌}
+use mathlib.Core.Bool.{true, false}
 use mathlib.Core.List.{List, [], ◌∷◌, ◌++◌, map}
 use native.Mathlib.Omega.{arith}
 use lib.ListN.{length}
@@ -26,8 +27,10 @@ use Rattle.slip_form.specs.declared.Slip.{Slip}
 use Rattle.slip_form.specs.Form.{some_of, SlipForm}
 use Rattle.slip_form.specs.Slips.{unbound, run_no, numbers, slip_runs, slip_of}
 use Rattle.slip_search.proofs.Places.{length-numbers}
-use Rattle.slips.specs.Answers.{Finding, with_slip, without_slip, first_runs, found_in, FindsFirst}
-use Rattle.slip_bytes.specs.InBytes.{slip_from, found_numbered}
+use Rattle.slips.specs.Answers.{Finding, Passing, with_slip, without_slip, first_runs, found_in, FindsFirst}
+use Rattle.answer_numbers.specs.Numbers.{refusal, NumberedAs}
+use Rattle.answer_numbers.proofs.Numbered.{TellsNumber}
+use Rattle.slip_bytes.specs.InBytes.{slip_from, found_numbered, FoundAs, passing_number, passes_number}
 
 -- ── what is found ──
 length_first : (m : Model) (vs : List ℕ) (ρ : Binding) (g : Formula) → length (first_runs m ρ vs g) ≡ length vs
@@ -77,6 +80,16 @@ slip_few file r a h =
     (λ x e _ four. subst FewRuns (sym e) four)
 
 -- ── the answer as a number ──
+-- of errors that tell their number as a refusal does
+pub found_same : (a : Finding) (b : List ℕ) (z : ℕ × List ℕ) → FoundAs TellsNumber a b z → z ≡ found_numbered a b
+found_same (Ok o) b z w = w
+found_same (Err e) b z (c, told, is) = is ∙ ap (λ (k : ℕ). (refusal k, b)) told
+
+pub passing_same : (a : Passing) (n : ℕ) → NumberedAs TellsNumber passes_number a n → n ≡ passing_number a
+passing_same (Ok true) n w = w
+passing_same (Ok false) n w = w
+passing_same (Err e) n (c, told, is) = is ∙ ap refusal told
+
 number_of : (a : Finding) (y : List ℕ) (n : ℕ) (y' : List ℕ) → ◌≡◌ {A = ℕ × List ℕ} (n, y') (found_numbered a y) → (b : Finding) → a ≡ b
     → (n ≡ (found_numbered b y).0) × (y' ≡ (found_numbered b y).1)
 number_of a y n y' q b e =

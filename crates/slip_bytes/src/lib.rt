@@ -7,12 +7,10 @@
 ghost use Rattle.std.specs.Prelude.{◌≡◌, ◌≤◌, IfOk, IfSome, length};
 ghost use Rattle.rules.specs.Limits.{max_nested};
 ghost use Rattle.slip_form.specs.Slips.{slip_runs};
-ghost use Rattle.refusals.specs.Refusal.{number};
-ghost use Rattle.answer_numbers.specs.Numbers.{refusal};
-ghost use Rattle.slip_bytes.specs.InBytes.{slip_from, runs_in, found_numbered, passing_number};
+ghost use Rattle.answer_numbers.specs.Numbers.{NumberedAs};
+ghost use Rattle.slip_bytes.specs.InBytes.{slip_from, runs_in, FoundAs, passes_number};
 
-use answer_numbers::REFUSAL_STEP;
-use refusals::Refusal;
+use answer_numbers::refusal_number;
 use rule_file::MAX_NESTED;
 use slip_form::Slip;
 use trace::RunNo;
@@ -39,10 +37,10 @@ fn put_runs(x: Slip, bytes: &mut [u8])
     }
 }
 
-// How many runs the slip that is found has, with its runs put into the first bytes; 0 for none, or the refusal.
-pub fn keep_slip(a: Result<Option<Slip>, Refusal>, bytes: &mut [u8]) -> u32
+// How many runs the slip that is found has, with its runs put into the first bytes; 0 for none, or the refusal, whose number the error tells.
+pub fn keep_slip<E: Into<u8>>(a: Result<Option<Slip>, E>, bytes: &mut [u8]) -> u32
     requires { IfOk a (λ o. IfSome o (λ x. x.count ≤ max_nested)) × (max_nested ≤ length bytes.old) }
-    ensures { (result, bytes.new) ≡ found_numbered a bytes.old }
+    ensures { FoundAs E.Into.converts a bytes.old (result, bytes.new) }
 {
     match a {
         Ok(Some(slip)) => {
@@ -50,20 +48,13 @@ pub fn keep_slip(a: Result<Option<Slip>, Refusal>, bytes: &mut [u8]) -> u32
             slip.count as u32
         }
         Ok(None) => 0,
-        Err(e) => refusal_number(e),
+        Err(refused) => refusal_number(refused),
     }
 }
 
-// The number of a refusal.
-fn refusal_number(e: Refusal) -> u32
-    ensures { result ≡ refusal (number e) }
-{
-    u32::from(u8::from(e)) * REFUSAL_STEP
-}
-
-// 1 a slip passes, 0 it does not, or the refusal.
-pub fn passing_number(a: Result<bool, Refusal>) -> u32
-    ensures { result ≡ passing_number a }
+// 1 a slip passes, 0 it does not, or the refusal, whose number the error tells.
+pub fn passing_number<E: Into<u8>>(a: Result<bool, E>) -> u32
+    ensures { NumberedAs E.Into.converts passes_number a result }
 {
     match a {
         Ok(passes) => u32::from(passes),

@@ -92,7 +92,7 @@ module _ (table file ranks : List ℕ) (runs m : ℕ) (M : Model) (a : AsksOf ta
         }
 
 -- where none serves, and at the end of the chain
-seeks_none : (q : Asked) (ρ₀ : Binding) (f₀ : Formula) → q.holds f₀ ρ₀ ≡ false → Seeks q ρ₀ f₀ None
+pub seeks_none : (q : Asked) (ρ₀ : Binding) (f₀ : Formula) → q.holds f₀ ρ₀ ≡ false → Seeks q ρ₀ f₀ None
 seeks_none q ρ₀ f₀ h = record { first = λ x p. absurd (cc); none = λ p. h }
 
 pub seeks_end : (q : Asked) (ρ₀ ρ : Binding) (f₀ f : Formula) (s : Slip) (b : Bool) → Keeps q ρ₀ f₀ (slip_runs s) ρ f → some? f ≡ false → b ≡ q.holds f ρ

@@ -82,6 +82,16 @@ module _ (P : ℕ → Type 0) where
   each_at (suc n) (r ∷ l) zero h e = e.0
   each_at (suc n) (r ∷ l) (suc i) h e = each_at n l i (omega arith) e.1
 
+  one_more : (i : ℕ) (l : List RunNo) → Each P (numbers i l) → P (get_or l i (run_no 0)).0 → Each P (numbers (suc i) l)
+  unfolding Each
+  one_more zero [] e h = (h, tt)
+  one_more zero (r ∷ l) e h = (h, tt)
+  one_more (suc i) [] e h = (e.0, one_more i [] e.1 h)
+  one_more (suc i) (r ∷ l) e h = (e.0, one_more i l e.1 h)
+
+  pub each_more : (i : ℕ) (l : List RunNo) → Each P (numbers i l) → P (get_or l i (run_no 0)).0 → Each P (numbers (i + 1) l)
+  each_more i l e h = rw (add-one) (one_more i l e h)
+
 -- a test of each run tells whether all have a rank
 abbrev pub ranked? : List ℕ → ℕ → RunNo → Bool
 ranked? ranks runs r = ltb r.0 128 && ltb (get_or ranks r.0 0) runs

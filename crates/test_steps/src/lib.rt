@@ -10,7 +10,7 @@ use std::io::Stdout;
 use trace::{Record, RunNo, Stepped};
 
 // The answer to a line that is refused.
-fn refused(r: Record, why: Refusal) -> Stepped {
+fn refused<E>(r: Record, why: E) -> Stepped<E> {
     Stepped {
         state: r,
         outcome: Err(why),
@@ -36,12 +36,26 @@ fn take_part(r: Record, log: &[u8], start: usize, end: usize) -> Stepped {
     refused(r, Refusal::LineForm)
 }
 
-// Takes what a log reader hands out.
-pub fn take_next(r: Record, log: &[u8], n: Option<Result<Span, Refusal>>) -> Stepped {
+// Takes what a log reader hands out, with whatever stands for a refusal there.
+pub fn take_next<E: From<Refusal> + Copy>(
+    r: Record,
+    log: &[u8],
+    n: Option<Result<Span, E>>,
+) -> Stepped<E> {
     match n {
-        Some(Ok(line)) => take_part(r, log, line.start, line.end),
+        Some(Ok(line)) => {
+            let a = take_part(r, log, line.start, line.end);
+            let outcome = match a.outcome {
+                Ok(run) => Ok(run),
+                Err(why) => Err(E::from(why)),
+            };
+            Stepped {
+                state: a.state,
+                outcome,
+            }
+        }
         Some(Err(why)) => refused(r, why),
-        None => refused(r, Refusal::LineForm),
+        None => refused(r, E::from(Refusal::LineForm)),
     }
 }
 

@@ -9,3 +9,4 @@ pub mod Scopes
 pub mod Closing
 pub mod Calls
 pub mod Whole
+pub mod Onward

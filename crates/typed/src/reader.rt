@@ -54,16 +54,20 @@ fn or_rest(
     requires { Begins text.now at names.old d k table.old × (1 ≤ k) }
     ensures { ReadsMore more_or or_size emit_ors text.now at names.old d k table.old result table.new names.new }
 {
-    let Some(p) = sign(text, at, b'|') else {
-        return Some(Reading {
-            at: skip(text, at),
-            count: k,
-        });
-    };
-    put(table, k, 2, k - 1, 0);
-    let side = and_rule(text, p, names, d, k + 1, table)?;
-    close_or(table, k, side.count);
-    or_rest(text, side.at, names, d, side.count + 3, table)
+    let mut here = at;
+    let mut count = k;
+    // Kept: no count, since each side says where the next begins.
+    while let Some(p) = sign(text, here, b'|') {
+        put(table, count, 2, count - 1, 0);
+        let side = and_rule(text, p, names, d, count + 1, table)?;
+        close_or(table, count, side.count);
+        here = side.at;
+        count = side.count + 3;
+    }
+    Some(Reading {
+        at: skip(text, here),
+        count,
+    })
 }
 
 // One or more nots, with `&` between them.
@@ -102,15 +106,19 @@ fn and_rest(
     requires { Begins text.now at names.old d k table.old × (1 ≤ k) }
     ensures { ReadsMore more_and and_size emit_ands text.now at names.old d k table.old result table.new names.new }
 {
-    let Some(p) = sign(text, at, b'&') else {
-        return Some(Reading {
-            at: skip(text, at),
-            count: k,
-        });
-    };
-    let side = not_rule(text, p, names, d, k, table)?;
-    put(table, side.count, 1, k - 1, side.count - 1);
-    and_rest(text, side.at, names, d, side.count + 1, table)
+    let mut here = at;
+    let mut count = k;
+    // Kept: no count, since each side says where the next begins.
+    while let Some(p) = sign(text, here, b'&') {
+        let side = not_rule(text, p, names, d, count, table)?;
+        put(table, side.count, 1, count - 1, side.count - 1);
+        here = side.at;
+        count = side.count + 1;
+    }
+    Some(Reading {
+        at: skip(text, here),
+        count,
+    })
 }
 
 // An operand with any number of `!` before it.
@@ -174,18 +182,22 @@ fn closes(
     requires { Begins text.now at names.old d k table.old × (1 ≤ k) }
     ensures { Closes text.now at names.old d k table.old c result table.new names.new }
 {
-    let shut = repeated(text, at, b')', c);
-    let left = c - shut.count;
-    if left == 0 {
-        return Some(Reading {
-            at: shut.at,
-            count: k,
-        });
+    let mut here = at;
+    let mut count = k;
+    let mut open = c;
+    // Kept: no count, since what stands between says where the next bracket closes.
+    loop {
+        let shut = repeated(text, here, b')', open);
+        let left = open - shut.count;
+        if left == 0 {
+            return Some(Reading { at: shut.at, count });
+        }
+        let ands = and_rest(text, shut.at, names, d, count, table)?;
+        let ors = or_rest(text, ands.at, names, d, ands.count, table)?;
+        here = sign(text, ors.at, b')')?;
+        count = ors.count;
+        open = left - 1;
     }
-    let ands = and_rest(text, shut.at, names, d, k, table)?;
-    let ors = or_rest(text, ands.at, names, d, ands.count, table)?;
-    let p = sign(text, ors.at, b')')?;
-    closes(text, p, names, d, ors.count, table, left - 1)
 }
 
 // Behind "exist" or a comma: a name, and what it is bound in.

@@ -50,7 +50,7 @@ more-ends a b f h e rest =
 
 -- one byte more in a buffer
 module _ (n : ℕ) (xs : List ℕ) (b : ℕ) (h : n < length xs) where
-  byte_within : n + 1 ≤ length (set xs n b)
+  pub byte_within : n + 1 ≤ length (set xs n b)
   byte_within = omega (arith, length-set xs n b)
 
   stored : take (n + 1) (set xs n b) ≡ take n xs ++ (b ∷ [])

@@ -1,6 +1,8 @@
 -- The converse of the number as a byte: one above 63 is no set, and neither is its byte.
+use Rattle.answer_numbers.proofs.Numbered.{numbered_same}
 use Rattle.scene_log.proofs.Numbered.{converses}
 use Rattle.scene_log.proofs.scene_log_converse.Goals as goal
 
 pub returns : goal.returns
-returns c = search converses
+returns c = let told = numbered_same _ _ c.answer_number.ensures in
+    search converses

@@ -1,5 +1,5 @@
 -- 20 for a buffer that is too short; then what is answered for the record that the bytes hold.
-use Rattle.slip_bytes.proofs.Few.{slip_few}
+use Rattle.slip_bytes.proofs.Few.{slip_few, found_same}
 use Rattle.scene_log.proofs.Slips.{find_no_record, find_no_room, find_known}
 use borrow.Author.Rules.{rules}
 use Rattle.scene_log.proofs.scene_log_first_slip.Goals as goal
@@ -14,4 +14,5 @@ pub keep_slip-requires : goal.keep_slip-requires
 keep_slip-requires c = search (rules, slip_few)
 
 pub returns : goal.returns
-returns c = search find_known
+returns c = let told = found_same _ _ _ c.keep_slip.ensures in
+    search find_known

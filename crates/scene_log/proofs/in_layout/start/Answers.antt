@@ -1,4 +1,5 @@
 -- Both lengths are looked at before anything is written: the record's here, the work area's at its start.
+use Rattle.answer_numbers.proofs.Numbered.{refusal_same}
 use Rattle.scene_log.proofs.InBytes.{starts}
 use Rattle.scene_log.proofs.in_layout.start.Goals as goal
 
@@ -6,7 +7,8 @@ pub returns-then-carried-lt-RECORD_BYTES : goal.returns-then-carried-lt-RECORD_B
 returns-then-carried-lt-RECORD_BYTES c = search starts
 
 pub returns-in-Err : goal.returns-in-Err
-returns-in-Err c = search starts
+returns-in-Err c = let told = refusal_same _ _ c.refusal_number.ensures in
+    search starts
 
 pub returns-in-Ok : goal.returns-in-Ok
 returns-in-Ok c = search starts

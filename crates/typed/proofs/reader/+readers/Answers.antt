@@ -1,4 +1,5 @@
 -- What each reader answers, by the lemmas on its part of the grammar.
+use mathlib.Core.Path.{refl}
 use native.Mathlib.Omega.{arith}
 use borrow.Author.Rules.{rules}
 use Rattle.signs.proofs.Told.{sign_missing, sign_present}
@@ -7,18 +8,28 @@ use Rattle.typed.proofs.Operands.{not_lost, not_read_lem, operand_atom, operand_
 use Rattle.typed.proofs.Skipped.{not_skipped}
 use Rattle.typed.proofs.Scopes.{scope_lost, scope_alone, scope_ors, scope_ands_lost, scope_both}
 use Rattle.typed.proofs.Closing.{operand_lost, operand_read, closes_all, closes-and_lost, closes-or_lost, closes_open, closes-more}
+use Rattle.typed.proofs.Answers.{more_place}
 use Rattle.typed.proofs.Calls.{asks, asks_some, run_over, skipped, after_skip, after_run, in_run, behind_part, behind_ands, behind_closed, rule_some}
+use Rattle.typed.proofs.Onward.{sooner, or_onward, and_onward}
 use Rattle.typed.proofs.reader.+readers.Goals as goal
 
 -- and_rest
-pub and_rest-returns-in_default : goal.and_rest-returns-in_default
-and_rest-returns-in_default t c = ands_none _ _ _ _ _ _ c.requires.0.inside c.requires.1 c.in_default.ensures _ c.skip.ensures
-
 pub and_rest-returns-in_err-side : goal.and_rest-returns-in_err-side
-and_rest-returns-in_err-side t c = rw c.from_residual.ensures (ands_lost _ _ _ _ _ _ _ _ _ c.in-Some.ensures c.in_err-side.ensures)
+and_rest-returns-in_err-side t c = let (y, one, ahead, onward) = c.loop-p.invariant in
+    rw c.from_residual.ensures (onward _ _ _ (ands_lost _ _ _ _ _ _ _ _ _ c.in-Some.ensures c.in_err-side.ensures))
+
+pub and_rest-loop-p-preserved : goal.and_rest-loop-p-preserved
+and_rest-loop-p-preserved t c = let (y, one, ahead, onward) = c.loop-p.invariant in
+    let z = and_onward _ _ _ _ _ _ y _ _ _ _ _ c.in-Some.ensures c.in_ok-side.ensures c.put.ensures in (
+      z.0,
+      omega arith,
+      omega (arith, ahead, z.1),
+      λ r a l x. onward r a l (ands_more _ _ _ _ _ _ _ _ _ _ _ r a l c.in-Some.ensures c.in_ok-side.ensures c.put.ensures x),
+    )
 
 pub and_rest-returns : goal.and_rest-returns
-and_rest-returns t c = ands_more _ _ _ _ _ _ _ _ _ _ _ _ _ _ c.in-Some.ensures c.in_ok-side.ensures c.put.ensures c.and_rest.ensures
+and_rest-returns t c = let (y, one, ahead, onward) = c.loop-p.invariant in
+    onward _ _ _ (ands_none _ _ _ _ _ _ y.inside one c.in_default.ensures _ c.skip.ensures)
 
 -- and_rule
 pub and_rule-returns-in_err-first : goal.and_rule-returns-in_err-first
@@ -32,28 +43,43 @@ and_rule-returns t c = and_read _ _ _ _ _ _ _ _ _ _ _ _ c.in_ok-first.ensures c.
 
 -- closes
 pub closes-returns-then-left-eq0 : goal.closes-returns-then-left-eq0
-closes-returns-then-left-eq0 t c = search closes_all
+closes-returns-then-left-eq0 t c = let (y, one, ahead, onward) = c.loop-shut.invariant in
+    onward _ _ _ (closes_all _ _ _ _ _ _ _ one _ c.repeated-shut.ensures c.if-left-eq0.true)
 
 pub closes-and_rest-requires : goal.closes-and_rest-requires
-closes-and_rest-requires t c = asks_some (after_run _ _ _ _ _ _ c.requires.0 _ _ c.decreases _ _ _ c.repeated-shut.ensures 0 (omega arith)) (search rules)
+closes-and_rest-requires t c = let (y, one, ahead, onward) = c.loop-shut.invariant in
+    asks_some (sooner t (after_run _ _ _ _ _ _ y 1 _ refl _ _ _ c.repeated-shut.ensures 0 (omega arith)) (omega (arith, c.decreases, ahead))) one
 
 pub closes-returns-in_err-ands : goal.closes-returns-in_err-ands
-closes-returns-in_err-ands t c = rw c.from_residual.ensures (closes-and_lost _ _ _ _ _ _ _ c.requires.1 _ c.repeated-shut.ensures c.if-left-eq0.false _ _ c.in_err-ands.ensures)
+closes-returns-in_err-ands t c = let (y, one, ahead, onward) = c.loop-shut.invariant in
+    rw c.from_residual.ensures (onward _ _ _ (closes-and_lost _ _ _ _ _ _ _ one _ c.repeated-shut.ensures c.if-left-eq0.false _ _ c.in_err-ands.ensures))
 
 pub closes-or_rest-requires : goal.closes-or_rest-requires
-closes-or_rest-requires t c = asks_some (behind_ands _ _ _ _ _ _ c.requires.0 _ _ c.decreases _ _ _ c.repeated-shut.ensures _ _ _ _ _ _ c.in_ok-ands.ensures (omega arith)) (search rules)
+closes-or_rest-requires t c = let (y, one, ahead, onward) = c.loop-shut.invariant in
+    asks_some (sooner t (behind_ands _ _ _ _ _ _ y 1 _ refl _ _ _ c.repeated-shut.ensures _ _ _ _ _ _ c.in_ok-ands.ensures (omega arith)) (omega (arith, c.decreases, ahead)))
+    (more_place _ _ _ _ _ _ _ _ _ _ _ _ c.in_ok-ands.ensures).some
 
 pub closes-returns-in_err-ors : goal.closes-returns-in_err-ors
-closes-returns-in_err-ors t c = rw c.from_residual-in_err-ors.ensures (closes-or_lost _ _ _ _ _ _ _ c.requires.1 _ c.repeated-shut.ensures c.if-left-eq0.false _ _ _ c.in_ok-ands.ensures _ _ c.in_err-ors.ensures)
+closes-returns-in_err-ors t c = let (y, one, ahead, onward) = c.loop-shut.invariant in
+    rw c.from_residual-in_err-ors.ensures (onward _ _ _ (closes-or_lost _ _ _ _ _ _ _ one _ c.repeated-shut.ensures c.if-left-eq0.false _ _ _ c.in_ok-ands.ensures _ _ c.in_err-ors.ensures))
 
-pub closes-returns-in_err-p : goal.closes-returns-in_err-p
-closes-returns-in_err-p t c = rw c.from_residual-in_err-p.ensures (closes_open _ _ _ _ _ _ _ c.requires.1 _ c.repeated-shut.ensures c.if-left-eq0.false _ _ _ c.in_ok-ands.ensures _ _ _ c.in_ok-ors.ensures c.in_err-p.ensures)
+pub closes-returns-in_err-here : goal.closes-returns-in_err-here
+closes-returns-in_err-here t c = let (y, one, ahead, onward) = c.loop-shut.invariant in
+    rw c.from_residual-in_err-here.ensures (onward _ _ _ (closes_open _ _ _ _ _ _ _ one _ c.repeated-shut.ensures c.if-left-eq0.false _ _ _ c.in_ok-ands.ensures _ _ _ c.in_ok-ors.ensures c.in_err-here.ensures))
 
-pub closes-closes-requires : goal.closes-closes-requires
-closes-closes-requires t c = asks_some (behind_closed _ _ _ _ _ _ c.requires.0 _ _ c.decreases _ _ _ c.repeated-shut.ensures _ _ _ _ _ _ c.in_ok-ands.ensures _ _ _ _ _ _ c.in_ok-ors.ensures _ _ c.in_ok-p.ensures 1 (omega arith)) (search rules)
+pub closes-loop-shut-smaller : goal.closes-loop-shut-smaller
+closes-loop-shut-smaller t c = let (y, one, ahead, onward) = c.loop-shut.invariant in
+    let z = behind_closed _ _ _ _ _ _ y 1 _ refl _ _ _ c.repeated-shut.ensures _ _ _ _ _ _ c.in_ok-ands.ensures _ _ _ _ _ _ c.in_ok-ors.ensures _ _ c.in_ok-here.ensures 1 (omega arith) in
+    omega (arith, z.less)
 
-pub closes-returns : goal.closes-returns
-closes-returns t c = closes-more _ _ _ _ _ _ _ c.requires.1 _ c.repeated-shut.ensures c.if-left-eq0.false _ _ _ c.in_ok-ands.ensures _ _ _ c.in_ok-ors.ensures _ c.in_ok-p.ensures _ _ _ c.closes.ensures
+pub closes-loop-shut-preserved : goal.closes-loop-shut-preserved
+closes-loop-shut-preserved t c = let (y, one, ahead, onward) = c.loop-shut.invariant in
+    let z = behind_closed _ _ _ _ _ _ y 1 _ refl _ _ _ c.repeated-shut.ensures _ _ _ _ _ _ c.in_ok-ands.ensures _ _ _ _ _ _ c.in_ok-ors.ensures _ _ c.in_ok-here.ensures 1 (omega arith) in (
+      z.begins,
+      (more_place _ _ _ _ _ _ _ _ _ _ _ _ c.in_ok-ors.ensures).some,
+      omega (arith, ahead, z.less),
+      λ r a l x. onward r a l (closes-more _ _ _ _ _ _ _ one _ c.repeated-shut.ensures c.if-left-eq0.false _ _ _ c.in_ok-ands.ensures _ _ _ c.in_ok-ors.ensures _ c.in_ok-here.ensures r a l x),
+    )
 
 -- not_rule
 pub not_rule-operand-requires : goal.not_rule-operand-requires
@@ -86,14 +112,22 @@ pub operand-returns : goal.operand-returns
 operand-returns t c = operand_read _ _ _ _ _ _ _ c.repeated-opens.ensures _ _ _ c.in_ok-inner.ensures _ _ _ c.closes.ensures
 
 -- or_rest
-pub or_rest-returns-in_default : goal.or_rest-returns-in_default
-or_rest-returns-in_default t c = ors_none _ _ _ _ _ _ c.requires.0.inside c.requires.1 c.in_default.ensures _ c.skip.ensures
-
 pub or_rest-returns-in_err-side : goal.or_rest-returns-in_err-side
-or_rest-returns-in_err-side t c = rw c.from_residual.ensures (ors_lost _ _ _ _ _ _ _ _ _ _ c.in-Some.ensures c.put.ensures c.in_err-side.ensures)
+or_rest-returns-in_err-side t c = let (y, one, ahead, onward) = c.loop-p.invariant in
+    rw c.from_residual.ensures (onward _ _ _ (ors_lost _ _ _ _ _ _ _ _ _ _ c.in-Some.ensures c.put.ensures c.in_err-side.ensures))
+
+pub or_rest-loop-p-preserved : goal.or_rest-loop-p-preserved
+or_rest-loop-p-preserved t c = let (y, one, ahead, onward) = c.loop-p.invariant in
+    let z = or_onward _ _ _ _ _ _ y _ _ _ _ _ _ c.in-Some.ensures c.put.ensures c.in_ok-side.ensures c.close_or.ensures in (
+      z.0,
+      omega arith,
+      omega (arith, ahead, z.1),
+      λ r a l x. onward r a l (ors_more _ _ _ _ _ _ _ _ _ _ _ r a _ l c.in-Some.ensures c.put.ensures c.in_ok-side.ensures c.close_or.ensures x),
+    )
 
 pub or_rest-returns : goal.or_rest-returns
-or_rest-returns t c = ors_more _ _ _ _ _ _ _ _ _ _ _ _ _ _ _ c.in-Some.ensures c.put.ensures c.in_ok-side.ensures c.close_or.ensures c.or_rest.ensures
+or_rest-returns t c = let (y, one, ahead, onward) = c.loop-p.invariant in
+    onward _ _ _ (ors_none _ _ _ _ _ _ y.inside one c.in_default.ensures _ c.skip.ensures)
 
 -- or_rule
 pub or_rule-returns-in_err-first : goal.or_rule-returns-in_err-first
